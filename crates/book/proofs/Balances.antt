@@ -1,0 +1,103 @@
+-- The two ties between a book and its accounts, each over just the list of the book and the columns of the accounts that it
+-- holds together, so that a call passes on untouched what it leaves alone; and what each movement does to them.
+use Prim.Native.Nat.{ℕ, _+_, _-_, _*_, _≤_, _<_}
+use mathlib.Core.List.{List}
+use mathlib.Core.Path.{_≡_, sym, _∙_, ap}
+use native.Mathlib.Omega.{arith}
+use native.Mathlib.Decide.{ℕ-discrete}
+use borrow.Author.Tests.{eq-eqb, ne-eqb}
+use lib.ListN.{set, length, replicate, length-set, length-replicate}
+use lib.IntN.{ℤ, pos}
+use Rattle.figuring.specs.Years.{firstYear, lastYear}
+use Rattle.book.specs.Sizes.{makers, sets, cells, families, places, allParts}
+use Rattle.book.specs.Ledger.{Key, key, In, cell, at, lower, raise, partAt, cellSum}
+use Rattle.book.specs.Postings.{netted}
+use Rattle.book.specs.Accounts.{plus, plusℤ, inYear}
+use Rattle.book.proofs.LedgerLaws.{at-raise, at-lower, length-raise, length-lower, netted-length, netted-in, netted-out, same-cell, other-year, onlyℤ-false, cellSum-put, cellSum-cleared}
+
+-- What stands at each key is what was netted there and what came, less what went. Stated as a sum, so that no difference is
+-- needed. From the open year Y on nothing was netted yet.
+pub record Tied (Y : ℕ) (l : List ℕ) (net came went : Key → ℕ) : Type 0 where
+  pub size : length l ≡ places
+  pub balance : (k : Key) → In k → at l k + went k ≡ net k + came k
+  pub ahead : (k : Key) → In k → Y ≤ k .year → net k ≡ 0
+
+module _ {Y : ℕ} {l : List ℕ} {net came went : Key → ℕ} (h : Tied Y l net came went) where
+  -- the columns may be written otherwise
+  pub tied-as :
+      (came′ went′ : Key → ℕ) → ((k : Key) → came′ k ≡ came k) → ((k : Key) → went′ k ≡ went k)
+      → Tied Y l net came′ went′
+  tied-as came′ went′ p q =
+      record { size = h .size; balance = λ k i. omega (arith, h .balance k i, p k, q k); ahead = h .ahead }
+
+  pub tied-out : (k : Key) (n : ℕ) → In k → n ≤ at l k → Tied Y (lower l k n) net came (plus k n went)
+  tied-out k n i b =
+      record {
+        size = simp length-lower (h .size);
+        balance = λ j ij. omega (arith, h .balance j ij, at-lower l k j n (h .size) i ij b);
+        ahead = h .ahead;
+      }
+
+  pub tied-in : (k : Key) (n : ℕ) → In k → Tied Y (raise l k n) net (plus k n came) went
+  tied-in k n i =
+      record {
+        size = simp length-raise (h .size);
+        balance = λ j ij. omega (arith, h .balance j ij, at-raise l k j n (h .size) i ij);
+        ahead = h .ahead;
+      }
+
+  -- the open year closes: the book writes v at each cell, the accounts u at each key, over a figure that was 0
+  pub tied-net :
+      (v : ℕ → ℕ) (u : Key → ℕ) → firstYear ≤ Y → Y ≤ lastYear
+      → ((k : Key) → In k → k .year ≡ Y → u k ≡ v (cell (k .maker) (k .kind)))
+      → ((k : Key) → In k → k .year ≡ Y → at l k ≡ 0)
+      → Tied (Y + 1) (netted (Y - firstYear) v cells l) (inYear Y u net) came went
+  tied-net v u low high same zero =
+      record {
+        size = netted-length (Y - firstYear) v cells l ∙ h .size;
+        balance = λ k i. go k i (ℕ-discrete (k .year) Y);
+        ahead = λ k i b. rw (ne-eqb (k .year) Y (omega arith)) (h .ahead k i (omega arith));
+      }
+    where
+      go :
+          (k : Key) → In k → Dec (k .year ≡ Y)
+          → at (netted (Y - firstYear) v cells l) k + went k ≡ inYear Y u net k + came k
+      go k i (yes p) =
+          rw (eq-eqb (k .year) Y p, same k i p, netted-in Y v l k (h .size) i p)
+          (omega (arith, h .balance k i, h .ahead k i (omega arith), zero k i p))
+      go k i (no p) = rw (ne-eqb (k .year) Y p, netted-out Y v l k i low high p) (h .balance k i)
+
+-- the sums of the open year Y are those of the book's parts, and no later year has one
+pub record Sums (Y : ℕ) (parts : List ℤ) (sum : Key → ℤ) : Type 0 where
+  pub size : length parts ≡ allParts
+  pub current : (m s : ℕ) → m < makers → s < sets → sum (key m s Y) ≡ cellSum parts (cell m s)
+  pub later : (k : Key) → Y < k .year → sum k ≡ pos 0
+
+module _ {Y : ℕ} {parts : List ℤ} {sum : Key → ℤ} (h : Sums Y parts sum) where
+  -- a part stored where there was none
+  pub sums-put :
+      (m s f y : ℕ) (z : ℤ) → m < makers → s < sets → f < families → y ≡ Y → partAt parts (cell m s) f ≡ pos 0
+      → Sums Y (set parts (cell m s * families + f) z) (plusℤ (key m s y) z sum)
+  sums-put m s f y z hm hs hf e zero =
+      record {
+        size = simp length-set (h .size);
+        current = λ n t hn ht.
+            rw (h .current n t hn ht, same-cell m s n t y Y hs ht e)
+            (sym (cellSum-put parts (cell m s) (cell n t) f z hf (omega (arith, h .size)) zero));
+        later = λ k b. rw (other-year (key m s y) k (omega arith), h .later k b, onlyℤ-false);
+      }
+
+  -- the next year begins with no parts
+  pub sums-clear : Sums (Y + 1) (replicate allParts (pos 0)) sum
+  sums-clear =
+      record {
+        size = length-replicate allParts (pos 0);
+        current = λ m s hm hs. h .later (key m s (Y + 1)) (omega arith) ∙ sym (cellSum-cleared (cell m s) (omega arith));
+        later = λ k b. h .later k (omega arith);
+      }
+
+  -- the sum of any key of the open year
+  pub sums-at : (k : Key) → In k → k .year ≡ Y → sum k ≡ cellSum parts (cell (k .maker) (k .kind))
+  sums-at k i e =
+      let q : k ≡ key (k .maker) (k .kind) Y = λ j. record { maker = k .maker; kind = k .kind; year = e j } in
+      ap sum q ∙ h .current (k .maker) (k .kind) (i .maker) (i .kind)

@@ -1,0 +1,162 @@
+-- Laws of the tests and sums over the numbers below a bound: what a counted loop needs at each turn and at its end, and
+-- what the theorems need of a sum of which one term changed.
+use Prim.Native.Nat.{ℕ, zero, suc, _+_, _*_, _-_, _<_, _≤_}
+use mathlib.Core.Bool.{Bool, true, false, not, _&&_, _||_, and-false, false≢true}
+use mathlib.Core.Logic.{⊎-elim, _⊎_, inl, inr, _≢_}
+use mathlib.Core.Path.{_≡_, refl, sym, _∙_, ap, ap₂}
+use native.Mathlib.Omega.{arith}
+use native.Mathlib.Numerals.{add-one}
+use native.Mathlib.Nat.{le-refl, suc-mul}
+use native.Mathlib.Decide.{ℕ-discrete}
+use lib.IntN.{ℤ, pos, negsuc, natAbs, _+ℤ_, +ℤ-assoc, +ℤ-comm, +ℤ-idl, +ℤ-idr}
+use Rattle.figuring.proofs.SignedLaws.{abs-add}
+use Rattle.book.specs.Below.{allBelow, anyBelow, sumBelow, sumBelowℤ, countBelow, oneIf}
+
+-- ---- one more
+pub all-more : (p : ℕ → Bool) (n : ℕ) → allBelow n p ≡ true → p n ≡ true → allBelow (n + 1) p ≡ true
+unfolding allBelow
+all-more p n h k = rw (add-one, h, k)
+
+pub any-more : (p : ℕ → Bool) (n : ℕ) → anyBelow n p ≡ false → p n ≡ false → anyBelow (n + 1) p ≡ false
+unfolding anyBelow
+any-more p n h k = rw (add-one, h, k)
+
+-- ---- one that decides
+pub or-true : (b : Bool) → (b || true) ≡ true
+or-true true = refl
+or-true false = refl
+
+pub below-suc : {i n : ℕ} → i < suc n → (i ≡ n) ⊎ (i < n)
+below-suc {i} {n} h = go (ℕ-discrete i n)
+  where
+    go : Dec (i ≡ n) → (i ≡ n) ⊎ (i < n)
+    go (yes e) = inl e
+    go (no ne) = inr (omega (arith, ne))
+
+pub all-fails : (p : ℕ → Bool) (n i : ℕ) → i < n → p i ≡ false → allBelow n p ≡ false
+unfolding allBelow
+all-fails p zero i l h = absurd (omega arith)
+all-fails p (suc n) i l h =
+    ⊎-elim (λ e. rw (← e, h) (and-false (allBelow i p))) (λ m. rw (all-fails p n i m h)) (below-suc l)
+
+pub any-hits : (p : ℕ → Bool) (n i : ℕ) → i < n → p i ≡ true → anyBelow n p ≡ true
+unfolding anyBelow
+any-hits p zero i l h = absurd (omega arith)
+any-hits p (suc n) i l h =
+    ⊎-elim (λ e. rw (← e, h) (or-true (anyBelow i p))) (λ m. rw (any-hits p n i m h)) (below-suc l)
+
+-- ---- what a true test of all says at one
+pub all-at : (p : ℕ → Bool) (n i : ℕ) → i < n → allBelow n p ≡ true → p i ≡ true
+all-at p n i l h = go (p i) refl
+  where
+    go : (b : Bool) → p i ≡ b → p i ≡ true
+    go true e = e
+    go false e = absurd (false≢true (sym (all-fails p n i l e) ∙ h))
+
+-- ---- where a loop that counts i up to n ends
+pub any-done : (p : ℕ → Bool) (n i : ℕ) {b : Bool} → i ≤ n → n ≤ i → anyBelow i p ≡ b → anyBelow n p ≡ b
+any-done p n i l g h = ap (λ (k : ℕ). anyBelow k p) (omega arith) ∙ h
+
+pub all-done : (p : ℕ → Bool) (n i : ℕ) {b : Bool} → i ≤ n → n ≤ i → allBelow i p ≡ b → allBelow n p ≡ b
+all-done p n i l g h = ap (λ (k : ℕ). allBelow k p) (omega arith) ∙ h
+
+-- ---- sums
+pub sum-more : (f : ℕ → ℕ) (n : ℕ) → sumBelow (n + 1) f ≡ sumBelow n f + f n
+unfolding sumBelow
+sum-more f n = rw add-one
+
+pub sum-rises : (f : ℕ → ℕ) (n i : ℕ) → i ≤ n → sumBelow i f ≤ sumBelow n f
+unfolding sumBelow
+sum-rises f zero i h = let e : i ≡ 0 = omega arith in rw e (le-refl 0)
+sum-rises f (suc n) i h = go (ℕ-discrete i (suc n)) (λ m. sum-rises f n i m)
+  where
+    go : Dec (i ≡ suc n) → (i ≤ n → sumBelow i f ≤ sumBelow n f) → sumBelow i f ≤ sumBelow n f + f n
+    go (yes e) r = rw e (le-refl (sumBelow n f + f n))
+    go (no ne) r = omega (arith, r (omega (arith, ne)))
+
+pub sum-at : (f : ℕ → ℕ) (n i : ℕ) → i < n → f i ≤ sumBelow n f
+sum-at f n i h = omega (arith, sum-more f i, sum-rises f n (i + 1) (omega arith))
+
+pub sum-done : (f : ℕ → ℕ) (n i : ℕ) → i ≤ n → n ≤ i → sumBelow i f ≡ sumBelow n f
+sum-done f n i l g = ap (λ (k : ℕ). sumBelow k f) (omega arith)
+
+-- ---- two tests
+pub and-intro : {a b : Bool} → a ≡ true → b ≡ true → (a && b) ≡ true
+and-intro h k = rw (h, k)
+
+pub first-fails : {a : Bool} (b : Bool) → a ≡ false → (a && b) ≡ false
+first-fails b h = rw h
+
+pub second-fails : (a : Bool) {b : Bool} → b ≡ false → (a && b) ≡ false
+second-fails a h = rw h (and-false a)
+
+-- ---- every one of them
+pub all-of : (p : ℕ → Bool) (n : ℕ) → ((i : ℕ) → i < n → p i ≡ true) → allBelow n p ≡ true
+unfolding allBelow
+all-of p zero h = refl
+all-of p (suc n) h = and-intro (all-of p n (λ i l. h i (omega arith))) (h n (omega arith))
+
+pub sum-zero : (f : ℕ → ℕ) (n : ℕ) → ((i : ℕ) → i < n → f i ≡ 0) → sumBelow n f ≡ 0
+unfolding sumBelow
+sum-zero f zero h = refl
+sum-zero f (suc n) h = omega (arith, sum-zero f n (λ i l. h i (omega arith)), h n (omega arith))
+
+-- ---- counts
+pub count-more : (p : ℕ → Bool) (n : ℕ) → countBelow (n + 1) p ≡ countBelow n p + oneIf (p n)
+unfolding countBelow
+count-more p n = sum-more (λ i. oneIf (p i)) n
+
+pub one-if-small : (b : Bool) → oneIf b ≤ 1
+one-if-small true = omega arith
+one-if-small false = omega arith
+
+-- ---- sums of signed numbers
+pub sumℤ-more : (f : ℕ → ℤ) (n : ℕ) → sumBelowℤ (n + 1) f ≡ sumBelowℤ n f +ℤ f n
+unfolding sumBelowℤ
+sumℤ-more f n = rw add-one
+
+-- terms of size at most k add up to at most n * k
+pub sumℤ-small : (f : ℕ → ℤ) (n k : ℕ) → ((i : ℕ) → i < n → natAbs (f i) ≤ k) → natAbs (sumBelowℤ n f) ≤ n * k
+unfolding sumBelowℤ
+sumℤ-small f zero k h = omega arith
+sumℤ-small f (suc n) k h =
+    omega (arith, abs-add (sumBelowℤ n f) (f n), sumℤ-small f n k (λ i l. h i (omega arith)), h n (omega arith), suc-mul n k)
+
+pub sumℤ-same : (f g : ℕ → ℤ) (n : ℕ) → ((i : ℕ) → i < n → g i ≡ f i) → sumBelowℤ n g ≡ sumBelowℤ n f
+unfolding sumBelowℤ
+sumℤ-same f g zero e = refl
+sumℤ-same f g (suc n) e = ap₂ _+ℤ_ (sumℤ-same f g n (λ i l. e i (omega arith))) (e n (omega arith))
+
+pub sumℤ-zero : (f : ℕ → ℤ) (n : ℕ) → ((i : ℕ) → i < n → f i ≡ pos 0) → sumBelowℤ n f ≡ pos 0
+unfolding sumBelowℤ
+sumℤ-zero f zero e = refl
+sumℤ-zero f (suc n) e =
+    let h : sumBelowℤ n f ≡ pos 0 = sumℤ-zero f n (λ i l. e i (omega arith)) in
+    let t : f n ≡ pos 0 = e n (omega arith) in
+    rw (h, t)
+
+-- what a sum comes to after one of its terms changed
+pub sumℤ-change :
+    (f g : ℕ → ℤ) (n j : ℕ) → j < n → ((i : ℕ) → i < n → i ≢ j → g i ≡ f i)
+    → sumBelowℤ n g +ℤ f j ≡ sumBelowℤ n f +ℤ g j
+unfolding sumBelowℤ
+sumℤ-change f g zero j h e = absurd (omega arith)
+sumℤ-change f g (suc n) j h e = go (ℕ-discrete n j) (λ l. sumℤ-change f g n j l (λ i m. e i (omega arith)))
+  where
+    go :
+        Dec (n ≡ j) → (j < n → sumBelowℤ n g +ℤ f j ≡ sumBelowℤ n f +ℤ g j)
+        → (sumBelowℤ n g +ℤ g n) +ℤ f j ≡ (sumBelowℤ n f +ℤ f n) +ℤ g j
+    go (yes p) ih =
+        let s : sumBelowℤ n g ≡ sumBelowℤ n f = sumℤ-same f g n (λ i l. e i (omega arith) (omega arith)) in
+        rw (s, p) (simp (+ℤ-assoc, +ℤ-comm (g j) (f j)))
+    go (no p) ih =
+        let t : g n ≡ f n = e n (omega arith) p in
+        let w : sumBelowℤ n g +ℤ f j ≡ sumBelowℤ n f +ℤ g j = ih (omega arith) in
+        rw t
+        (+ℤ-assoc (sumBelowℤ n g) (f n) (f j)
+        ∙ ap (λ (x : ℤ). sumBelowℤ n g +ℤ x) (+ℤ-comm (f n) (f j))
+        ∙ sym (+ℤ-assoc (sumBelowℤ n g) (f j) (f n))
+        ∙ ap (λ (x : ℤ). x +ℤ f n) w
+        ∙ +ℤ-assoc (sumBelowℤ n f) (g j) (f n)
+        ∙ ap (λ (x : ℤ). sumBelowℤ n f +ℤ x) (+ℤ-comm (g j) (f n))
+        ∙ sym (+ℤ-assoc (sumBelowℤ n f) (f n) (g j)))

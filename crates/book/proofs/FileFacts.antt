@@ -1,0 +1,69 @@
+-- What an accepted filing says.
+use mathlib.Core.Bool.{true, false}
+use mathlib.Core.Path.{_≡_, ap}
+use Prim.Native.Nat.{ℕ, _≤_, _<_}
+use native.Mathlib.Omega.{arith}
+use borrow.Author.Tests.{leb-false, eqb-true, not-false}
+use lib.Dec.{eqb}
+use lib.ListN.{getD}
+use Rattle.figuring.specs.Years.{lastYear}
+use Rattle.figuring.specs.Standards.{standardFor, isAbsent}
+use Rattle.figuring.specs.Parts.{withinLimits, partOf, familyPart}
+use Rattle.figuring.specs.declared.units.Part.{Part}
+use Rattle.figuring.specs.declared.parts.FamilyPart.{FamilyPart}
+use Rattle.figuring.specs.declared.parts.FamilyPart.the-variants.{Figured, OutOfLimits}
+use Rattle.figuring.proofs.PartLaws.{figured}
+use Rattle.book.specs.Sizes.{makers, sets, families}
+use Rattle.book.specs.Ledger.{marked}
+use Rattle.book.specs.Soundness.{sound}
+use Rattle.book.specs.Refusals.{firstRefusal}
+use Rattle.book.specs.Rules.{fileTable}
+use Rattle.book.specs.Postings.{filingCell}
+use Rattle.book.specs.declared.ledger.Book.{Book}
+use Rattle.book.specs.declared.kinds.Filing.{Filing}
+use Rattle.book.specs.declared.answers.Verdict.the-variants.{Accepted}
+use Rattle.book.proofs.TableLaws.{cleared}
+use Rattle.book.proofs.CloseFacts.{still-open}
+
+pub record Fileable (b : Book) (f : Filing) : Type 0 where
+  pub sound : sound b ≡ true
+  pub maker : f .maker < makers
+  pub kind : f .set < sets
+  pub year : f .year ≡ b .«open_year»
+  pub upto : b .«open_year» ≤ lastYear
+  pub standard : isAbsent (standardFor (f .set) (f .«vehicle_use») (f .year)) ≡ false
+  pub family : f .family < families
+  pub limits : withinLimits (f .fcl) (f .cf) (f .volume) (f .life) ≡ true
+  pub unmarked : marked (getD (b .marks) (filingCell f) 0) (f .family) ≡ false
+
+pub fileable : (b : Book) (f : Filing) → firstRefusal (fileTable b f) ≡ Accepted → Fileable b f
+unfolding fileTable
+fileable b f e =
+    let p = cleared (fileTable b f) e in
+    let s : sound b ≡ true = not-false (sound b) (search) in
+    record {
+      sound = s;
+      maker = leb-false makers (f .maker) (search);
+      kind = leb-false sets (f .set) (search);
+      year = eqb-true (f .year) (b .«open_year») (not-false (eqb (f .year) (b .«open_year»)) (search));
+      upto = still-open b s (search);
+      standard = search;
+      family = leb-false families (f .family) (search);
+      limits = not-false (withinLimits (f .fcl) (f .cf) (f .volume) (f .life)) (search);
+      unmarked = search;
+    }
+
+-- what family_part gives a filing that is within its limits
+module _ (s fcl cf volume life : ℕ) (h : withinLimits fcl cf volume life ≡ true) where
+  pub part-is :
+      {r : FamilyPart} {p : Part}
+      → r ≡ familyPart s fcl cf volume life → r ≡ Figured p → p .0 ≡ partOf s fcl cf volume life
+  part-is {r} {p} e d =
+      let g = figured s fcl cf volume life h in
+      let q : p ≡ record { 0 = partOf s fcl cf volume life } = cc in
+      ap (λ (x : Part). x .0) q
+
+  pub never-out : {r : FamilyPart} → r ≡ familyPart s fcl cf volume life → r ≡ OutOfLimits → ⊥
+  never-out e d =
+      let g = figured s fcl cf volume life h in
+      let z : _≡_ {A = ℕ} 0 1 = cc in omega arith

@@ -1,0 +1,175 @@
+-- Laws of keys and places: what stands at a key after a lot or shortage was lowered or raised, after a close, and what a
+-- cell's parts add up to after one was stored.
+use mathlib.Core.Bool.{Bool, true, false, not, _&&_, _||_}
+use mathlib.Core.List.{List, [], _∷_}
+use mathlib.Core.Path.{_≡_, refl, sym, _∙_, ap, subst}
+use mathlib.Core.Logic.{_≢_, _⊎_, inl, inr, ⊎-elim}
+use Prim.Native.Nat.{ℕ, zero, suc, _+_, _-_, _*_, _≤_, _<_}
+use native.Mathlib.Omega.{arith}
+use native.Mathlib.Decide.{ℕ-discrete}
+use borrow.Author.Tests.{ltb-true, ltb-false, leb-true, leb-false, eqb-true, eqb-false, not-true, not-false, eq-eqb, ne-eqb}
+use lib.Dec.{ltb, leb, eqb}
+use lib.ListN.{getD, set, replicate, length, length-set, getD-replicate}
+use lib.Seq.{getD-set-same, getD-set-other}
+use lib.IntN.{ℤ, pos, negsuc, _+ℤ_, +ℤ-assoc, +ℤ-comm, +ℤ-idl, +ℤ-idr}
+use Rattle.figuring.specs.Years.{firstYear, lastYear}
+use Rattle.figuring.proofs.BoolLaws.{both}
+use Rattle.book.specs.Sizes.{sets, cells, families, years, places, allParts}
+use Rattle.book.specs.Below.{sumBelowℤ}
+use Rattle.book.specs.Ledger.{Key, key, In, place, at, lower, raise, cell, cellSum, partAt}
+use Rattle.book.specs.Postings.{netted}
+use Rattle.book.specs.Accounts.{sameKey, only, onlyℤ}
+use Rattle.book.proofs.BelowLaws.{sumℤ-same, sumℤ-zero, sumℤ-change}
+
+-- ── keys
+pub apart : (a b n m : ℕ) → a < years → b < years → n * years + a ≡ m * years + b → (n ≡ m) × (a ≡ b)
+apart a b n m ha hb e = (omega arith, omega arith)
+
+pub apart4 : (a b n m : ℕ) → a < sets → b < sets → n * sets + a ≡ m * sets + b → (n ≡ m) × (a ≡ b)
+apart4 a b n m ha hb e = (omega arith, omega arith)
+
+-- two keys in range are the same key or have other indices
+same-false : (k j : Key) → In k → In j → sameKey k j ≡ false → place j ≢ place k
+unfolding sameKey
+same-false k j hk hj e = λ i.
+    let m : k .maker ≡ j .maker = omega arith in
+    let s : k .kind ≡ j .kind = omega arith in
+    let y : k .year ≡ j .year = omega arith in
+    let t : sameKey k j ≡ true = simp (eq-eqb _ _ m, eq-eqb _ _ s, eq-eqb _ _ y) in
+    let z : _≡_ {A = ℕ} 0 1 = cc in omega arith
+
+same-true : (k j : Key) → sameKey k j ≡ true → k ≡ j
+unfolding sameKey
+same-true k j e =
+    let p = both _ _ e in
+    let q = both _ _ (p .1) in
+    λ i. record {
+      maker = eqb-true (k .maker) (j .maker) (p .0) i;
+      kind = eqb-true (k .kind) (j .kind) (q .0) i;
+      year = eqb-true (k .year) (j .year) (q .1) i;
+    }
+
+place-below : (k : Key) → In k → place k < places
+place-below k h = omega arith
+
+-- what stands at a key after one place was raised or lowered
+set-at : (l : List ℕ) (k j : Key) (v : ℕ) (t : Bool) → sameKey k j ≡ t → length l ≡ places → In k → In j → at (set l (place k) v) j ≡ elim t [ true ↦ v | false ↦ at l j ]
+unfolding at
+set-at l k j v true e n hk hj =
+    rw (← same-true k j e) (getD-set-same l (place k) v 0 (omega (arith, place-below k hk)))
+set-at l k j v false e n hk hj = getD-set-other l (place k) (place j) v 0 (same-false k j hk hj e)
+
+pub at-raise : (l : List ℕ) (k j : Key) (n : ℕ) → length l ≡ places → In k → In j → at (raise l k n) j ≡ at l j + only (sameKey k j) n
+unfolding raise only
+at-raise l k j n h hk hj = go (sameKey k j) refl
+  where
+    go : (t : Bool) → sameKey k j ≡ t → at (set l (place k) (at l k + n)) j ≡ at l j + only t n
+    go true e = set-at l k j _ true e h hk hj ∙ rw (same-true k j e)
+    go false e = set-at l k j _ false e h hk hj ∙ omega arith
+
+pub at-lower : (l : List ℕ) (k j : Key) (n : ℕ) → length l ≡ places → In k → In j → n ≤ at l k → at (lower l k n) j + only (sameKey k j) n ≡ at l j
+unfolding lower only
+at-lower l k j n h hk hj b = go (sameKey k j) refl
+  where
+    go : (t : Bool) → sameKey k j ≡ t → at (set l (place k) (at l k - n)) j + only t n ≡ at l j
+    go true e = omega (arith, set-at l k j (at l k - n) true e h hk hj, ap (at l) (same-true k j e))
+    go false e = omega (arith, set-at l k j (at l k - n) false e h hk hj)
+
+pub length-raise : (l : List ℕ) (k : Key) (n : ℕ) → length (raise l k n) ≡ length l
+unfolding raise
+length-raise l k n = simp length-set
+
+pub length-lower : (l : List ℕ) (k : Key) (n : ℕ) → length (lower l k n) ≡ length l
+unfolding lower
+length-lower l k n = simp length-set
+
+-- ── a close's writes
+pub netted-length : (y : ℕ) (v : ℕ → ℕ) (n : ℕ) (l : List ℕ) → length (netted y v n l) ≡ length l
+unfolding netted
+netted-length y v zero l = refl
+netted-length y v (suc n) l = simp length-set (netted-length y v n l)
+
+pub netted-other : (y : ℕ) (v : ℕ → ℕ) (n : ℕ) (l : List ℕ) (i : ℕ) → ((c : ℕ) → c < n → i ≢ c * years + y) → getD (netted y v n l) i 0 ≡ getD l i 0
+unfolding netted
+netted-other y v zero l i a = refl
+netted-other y v (suc n) l i a =
+    getD-set-other (netted y v n l) (n * years + y) i (v n) 0 (a n (omega arith)) ∙ netted-other y v n l i (λ c h. a c (omega arith))
+
+pub netted-here : (y : ℕ) (v : ℕ → ℕ) (n : ℕ) (l : List ℕ) (c : ℕ) → c < n → n * years ≤ length l → y < years → getD (netted y v n l) (c * years + y) 0 ≡ v c
+unfolding netted
+netted-here y v zero l c h d w = absurd (omega arith)
+netted-here y v (suc n) l c h d w = go (ℕ-discrete c n) (λ m. netted-here y v n l c m (omega arith) w)
+  where
+    go : Dec (c ≡ n) → (c < n → getD (netted y v n l) (c * years + y) 0 ≡ v c) → getD (set (netted y v n l) (n * years + y) (v n)) (c * years + y) 0 ≡ v c
+    go (yes p) ih = rw p (getD-set-same (netted y v n l) (n * years + y) (v n) 0 (omega (arith, netted-length y v n l)))
+    go (no p) ih = getD-set-other (netted y v n l) (n * years + y) (c * years + y) (v n) 0 (omega arith) ∙ ih (omega arith)
+
+pub bool-false : (t : Bool) → (t ≡ true → ⊥) → t ≡ false
+bool-false true h = absurd (h refl)
+bool-false false h = refl
+
+-- ── keys of one year are the same where their cells are
+pub same-cell : (m s n t y z : ℕ) → s < sets → t < sets → y ≡ z → sameKey (key m s y) (key n t z) ≡ eqb (cell m s) (cell n t)
+unfolding sameKey
+same-cell m s n t y z hs ht h = go (ℕ-discrete (cell m s) (cell n t))
+  where
+    go : Dec (cell m s ≡ cell n t) → sameKey (key m s y) (key n t z) ≡ eqb (cell m s) (cell n t)
+    go (yes p) =
+        let em : m ≡ n = omega arith in
+        let es : s ≡ t = omega arith in
+        simp (eq-eqb _ _ em, eq-eqb _ _ es, eq-eqb _ _ h, eq-eqb _ _ p)
+    go (no p) =
+        bool-false _ (λ e.
+        let q = same-true (key m s y) (key n t z) e in
+        let em : m ≡ n = ap (λ (k : Key). k .maker) q in
+        let es : s ≡ t = ap (λ (k : Key). k .kind) q in
+        omega arith) ∙ sym (ne-eqb _ _ p)
+
+pub other-year : (k j : Key) → k .year ≢ j .year → sameKey k j ≡ false
+unfolding sameKey
+other-year k j h = bool-false _ (λ e. h (ap (λ (k : Key). k .year) (same-true k j e)))
+
+-- ── the sum of a cell after one of its parts was put in, or another's
+pub cellSum-set : (l : List ℤ) (c d f : ℕ) (v : ℤ) → f < families → c * families + f < length l → cellSum (set l (c * families + f) v) d +ℤ onlyℤ (eqb c d) (partAt l c f) ≡ cellSum l d +ℤ onlyℤ (eqb c d) v
+unfolding cellSum onlyℤ
+cellSum-set l c d f v hf h = go (ℕ-discrete c d)
+  where
+    go : Dec (c ≡ d) → cellSum (set l (c * families + f) v) d +ℤ onlyℤ (eqb c d) (partAt l c f) ≡ cellSum l d +ℤ onlyℤ (eqb c d) v
+    go (yes p) =
+        rw (eq-eqb _ _ p, ← p)
+        (sumℤ-change (partAt l c) (partAt (set l (c * families + f) v) c) families f hf
+        (λ i hi n. getD-set-other l (c * families + f) (c * families + i) v (pos 0) (omega arith))
+        ∙ ap (λ (x : ℤ). sumBelowℤ families (partAt l c) +ℤ x) (getD-set-same l (c * families + f) v (pos 0) h))
+    go (no p) =
+        rw (ne-eqb _ _ p) (ap (λ (x : ℤ). x +ℤ pos 0) (sumℤ-same _ _ families (λ i hi. getD-set-other l (c * families + f) (d * families + i) v (pos 0) (omega arith))))
+
+pub onlyℤ-zero : (t : Bool) → onlyℤ t (pos 0) ≡ pos 0
+unfolding onlyℤ
+onlyℤ-zero true = refl
+onlyℤ-zero false = refl
+
+pub onlyℤ-false : (v : ℤ) → onlyℤ false v ≡ pos 0
+unfolding onlyℤ
+onlyℤ-false v = refl
+
+-- put in where there was zero: the sum takes it
+pub cellSum-put : (l : List ℤ) (c d f : ℕ) (v : ℤ) → f < families → c * families + f < length l → partAt l c f ≡ pos 0 → cellSum (set l (c * families + f) v) d ≡ cellSum l d +ℤ onlyℤ (eqb c d) v
+cellSum-put l c d f v hf h z =
+    sym (+ℤ-idr _) ∙ ap (λ (x : ℤ). cellSum (set l (c * families + f) v) d +ℤ x) (sym (ap (onlyℤ (eqb c d)) z ∙ onlyℤ-zero (eqb c d))) ∙ cellSum-set l c d f v hf h
+
+pub cellSum-cleared : (c : ℕ) → c < cells → cellSum (replicate allParts (pos 0)) c ≡ pos 0
+unfolding cellSum
+cellSum-cleared c h = sumℤ-zero _ families (λ i hi. getD-replicate allParts (c * families + i) (pos 0) (pos 0) (omega arith))
+
+-- ── a close at a key: of the year closed, and of another
+pub netted-in : (y : ℕ) (v : ℕ → ℕ) (l : List ℕ) (k : Key) → length l ≡ places → In k → k .year ≡ y → at (netted (y - firstYear) v cells l) k ≡ v (cell (k .maker) (k .kind))
+unfolding at
+netted-in y v l k n i e = rw (← e) (netted-here (k .year - firstYear) v cells l (cell (k .maker) (k .kind)) (omega arith) (omega arith) (omega arith))
+
+pub netted-out : (y : ℕ) (v : ℕ → ℕ) (l : List ℕ) (k : Key) → In k → firstYear ≤ y → y ≤ lastYear → k .year ≢ y → at (netted (y - firstYear) v cells l) k ≡ at l k
+unfolding at
+netted-out y v l k i h j e = netted-other (y - firstYear) v cells l (place k) (λ c d. omega arith)
+
+pub at-zeros : (k : Key) → In k → at (replicate places 0) k ≡ 0
+unfolding at
+at-zeros k i = getD-replicate places (place k) 0 0 (place-below k i)

@@ -1,0 +1,94 @@
+-- Laws of lots and shortages in time: the code's difference against the rule's sum, and what a test that holds says.
+use Prim.Native.Nat.{ℕ, _+_, _-_, _*_, _≤_, _<_}
+use mathlib.Core.Bool.{true, false, not, _&&_}
+use mathlib.Core.List.{List}
+use mathlib.Core.Path.{_≡_, sym, _∙_, ap}
+use native.Mathlib.Omega.{arith}
+use native.Mathlib.Decide.{decLe}
+use borrow.Author.Tests.{ltb-true, leb-true, not-false, lt-ltb, le-ltb, le-leb, lt-leb}
+use lib.Dec.{ltb, leb}
+use lib.ListN.{getD}
+use Rattle.figuring.specs.Years.{firstYear}
+use Rattle.figuring.proofs.BoolLaws.{both}
+use Rattle.book.specs.Sizes.{sets, years}
+use Rattle.book.specs.Ledger.{key, In, at}
+use Rattle.book.specs.Life.{closedYear, live, openShort}
+use Rattle.book.specs.Listing.{isCellYear}
+use Rattle.book.proofs.BelowLaws.{and-intro, second-fails}
+
+-- ── closed years, and those at most `life` years back
+pub record Closed (Y y : ℕ) : Type 0 where
+  pub from : firstYear ≤ y
+  pub closed : y < Y
+
+pub closed-is : (Y y : ℕ) → closedYear Y y ≡ true → Closed Y y
+unfolding closedYear
+closed-is Y y e =
+    let p = both _ _ e in
+    record { from = leb-true _ _ (p .0); closed = ltb-true _ _ (p .1) }
+
+-- `open_year - year <= life` in a closed year
+pub young : (Y y life : ℕ) → closedYear Y y ≡ true → leb (Y - y) life ≡ (closedYear Y y && leb Y (y + life))
+young Y y life e = rw e (go (decLe (Y - y) life) (closed-is Y y e))
+  where
+    go : Dec (Y - y ≤ life) → Closed Y y → leb (Y - y) life ≡ leb Y (y + life)
+    go (yes p) h = le-leb _ _ p ∙ sym (le-leb Y (y + life) (omega (arith, h)))
+    go (no p) h = lt-leb (Y - y) life (omega arith) ∙ sym (lt-leb Y (y + life) (omega (arith, h)))
+
+-- `open_year - year > life` in a closed year
+pub old : (Y y life : ℕ) → closedYear Y y ≡ true → ltb life (Y - y) ≡ (closedYear Y y && ltb (y + life) Y)
+old Y y life e = rw e (go (decLe (Y - y) life) (closed-is Y y e))
+  where
+    go : Dec (Y - y ≤ life) → Closed Y y → ltb life (Y - y) ≡ ltb (y + life) Y
+    go (yes p) h = le-ltb life (Y - y) p ∙ sym (le-ltb (y + life) Y (omega (arith, h)))
+    go (no p) h = lt-ltb life (Y - y) (omega arith) ∙ sym (lt-ltb (y + life) Y (omega (arith, h)))
+
+-- ── what a test says where it holds
+pub record Young (life Y y : ℕ) : Type 0 where
+  pub from : firstYear ≤ y
+  pub closed : y < Y
+  pub young : Y ≤ y + life
+
+young-is : (life Y y : ℕ) → (closedYear Y y && leb Y (y + life)) ≡ true → Young life Y y
+young-is life Y y e =
+    let p = both _ _ e in
+    let c = closed-is Y y (p .0) in
+    record { from = c .from; closed = c .closed; young = leb-true _ _ (p .1) }
+
+abbrev pub Live : ℕ → ℕ → Type 0
+Live Y v = Young 6 Y v
+
+pub live-is : (Y v : ℕ) → not (live Y v) ≡ false → Live Y v
+unfolding live
+live-is Y v e = young-is 6 Y v (not-false (live Y v) e)
+
+abbrev pub OpenShort : ℕ → ℕ → Type 0
+OpenShort Y y = Young 4 Y y
+
+pub open-is : (Y y : ℕ) → not (openShort Y y) ≡ false → OpenShort Y y
+unfolding openShort
+open-is Y y e = young-is 4 Y y (not-false (openShort Y y) e)
+
+-- ── what a listing shows: a figure n, read at a cell and year of the book, that is not 0
+pub cell-year : (m s y : ℕ) → isCellYear m s y ≡ true → In (key m s y)
+unfolding isCellYear
+cell-year m s y e =
+    let p = both _ _ e in
+    let q = both _ _ (p .1) in
+    let r = both _ _ (q .1) in
+    record {
+      maker = ltb-true _ _ (p .0);
+      kind = ltb-true _ _ (q .0);
+      from = leb-true _ _ (r .0);
+      upto = leb-true _ _ (r .1);
+    }
+
+pub hidden :
+    (l : List ℕ) (m s y : ℕ) {n : ℕ} → n ≡ at l (key m s y) → n ≡ 0
+    → (isCellYear m s y && ltb 0 (at l (key m s y))) ≡ false
+hidden l m s y e z = second-fails (isCellYear m s y) (le-ltb 0 (at l (key m s y)) (omega arith))
+
+pub shown :
+    (l : List ℕ) (m s y : ℕ) {n : ℕ} → isCellYear m s y ≡ true → n ≡ at l (key m s y) → (n ≡ 0 → ⊥)
+    → (isCellYear m s y && ltb 0 (at l (key m s y))) ≡ true
+shown l m s y i e z = and-intro i (lt-ltb 0 (at l (key m s y)) (omega (arith, z)))

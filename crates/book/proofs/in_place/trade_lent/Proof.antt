@@ -1,0 +1,29 @@
+-- `book::in_place::trade_lent` meets its contract: the walk of `LentWalk`, at `trade_in`.
+-- Assumes nothing.
+use contract.Running.{givenOf, tables, tablesOf}
+use denote.Triple.Spec.{tripleOf}
+use denote.Triple.Table.{entered, cited}
+use Rattle.book.specs.Rules.{posted}
+use Rattle.book.proofs.InPlaceWalk.{Passed, of-struct, Thin}
+use Rattle.book.proofs.LentWalk.{meets}
+use Rattle.book.proofs.kinds.Trade as X
+use Rattle.book.proofs.kinds.Trade.Laws as X′
+use Rattle.book.specs.declared.kinds.Call.the-variants.{Trade}
+use Rattle.book.proofs.in_place.trade_in.Symbol as step-def
+use Rattle.book.proofs.in_place.trade_in.Symbol.{name as #step}
+use Rattle.book.proofs.in_place.trade_in.Met as step-thm
+use Rattle.book.proofs.in_place.trade_lent.Key.{name as #own}
+use Rattle.book.proofs.in_place.trade_lent as f
+use Rattle.book.proofs.in_place.trade_lent.Statement as stated
+use Rattle.book.proofs.in_place.trade_lent.Code as code
+
+abbrev passed : Passed
+passed = of-struct X.the-type X′.the-laws X′.the-copy X′.the-plain
+
+pub trade-lent-spec : {M : Type 1} → stated.statement M
+unfolding code.routine tablesOf
+trade-lent-spec 𝓤 H 𝓜 𝓖 𝓡 =
+    entered 𝓤 H (tripleOf 𝓤 H (𝓖 .A) f.signature (f.spec 𝓤 H (𝓖 .A) (𝓜 .mem) (𝓡 .run)))
+    (tables 𝓤 H 𝓜 𝓡 code.env .C) (tables 𝓤 H 𝓜 𝓡 code.env .Λ) #own code.function (code.unfolded 𝓤 H 𝓜 𝓡)
+    (meets passed (λ b x. posted b (Trade x)) 𝓤 H (𝓖 .A) (givenOf 𝓤 H 𝓜 𝓖) (tablesOf 𝓤 H 𝓜 (tables 𝓤 H 𝓜 𝓡 code.env)) #step
+    (cited 𝓤 H (Thin passed (λ b x. posted b (Trade x)) 𝓤 H (𝓖 .A)) 𝓜 𝓡 code.env #step step-def.routine code.calls-book·in-place·trade-in (step-thm.met 𝓤 H 𝓜 𝓖 𝓡)))

@@ -1,0 +1,137 @@
+-- The ladder of early returns is the table, row by row: `past-k` says that the first k rows have passed.
+use mathlib.Core.List.{List}
+use mathlib.Core.Path.{sym, _∙_}
+use native.Mathlib.Omega.{arith}
+use borrow.Author.Needs.{needs}
+use borrow.Author.Tests.{le-leb, lt-leb, lt-ltb, le-ltb, eq-eqb, ne-eqb}
+use Rattle.book.specs.Ledger.{In}
+use Rattle.book.specs.Postings.{retiredLot}
+use Rattle.book.specs.Refusals.{Row}
+use Rattle.book.specs.Rules.{retireTable}
+use Rattle.book.proofs.TableLaws.{Past, not-of}
+use Rattle.book.proofs.MoveFacts.{live-in}
+use Rattle.book.proofs.retiring.retire_verdict.Statement.{statement}
+use Rattle.book.proofs.retiring.retire_verdict.Tie as tie
+
+-- the table at the function's entry
+abbrev tab : tie.Start → List Row
+tab s = retireTable (s .args .t1) (s .args .p)
+
+abbrev start-1 : tie.Else1 → tie.Start
+start-1 c = c .before .before
+
+abbrev start-2 : tie.Else2 → tie.Start
+start-2 c = start-1 (c .before .before)
+
+abbrev start-3 : tie.Else3 → tie.Start
+start-3 c = start-2 (c .before .before)
+
+abbrev start-4 : tie.Else4 → tie.Start
+start-4 c = start-3 (c .before .before)
+
+abbrev start-5 : tie.Else5 → tie.Start
+start-5 c = start-4 (c .before .before)
+
+abbrev start-6 : tie.Else6 → tie.Start
+start-6 c = start-5 (c .before .before .before .before)
+
+past-1 : (c : tie.Else1) → Past 1 (tab (start-1 c))
+unfolding retireTable
+past-1 c = rw (not-of (c .before .is-sound .ensures) (c .if1 .left))
+
+past-2 : (c : tie.Else2) → Past 2 (tab (start-2 c))
+unfolding retireTable
+past-2 c = past-1 (c .before .before) ∙ rw (lt-leb _ _ (c .if2 .left))
+
+past-3 : (c : tie.Else3) → Past 3 (tab (start-3 c))
+unfolding retireTable
+past-3 c = past-2 (c .before .before) ∙ rw (lt-leb _ _ (c .if3 .left))
+
+past-4 : (c : tie.Else4) → Past 4 (tab (start-4 c))
+unfolding retireTable
+past-4 c = past-3 (c .before .before) ∙ rw (not-of (c .before .is-live .ensures) (c .if4 .left))
+
+past-5 : (c : tie.Else5) → Past 5 (tab (start-5 c))
+unfolding retireTable
+past-5 c = past-4 (c .before .before) ∙ rw (ne-eqb _ _ (c .if5 .left))
+
+past-6 : (c : tie.Else6) → Past 6 (tab (start-6 c))
+unfolding retireTable
+past-6 c = past-5 (c .before .before .before .before) ∙ rw (← (c .before .has-shortage .ensures), c .if6 .left)
+
+-- the paying lot is one of the book's
+payer : (c : tie.Else4) → In (retiredLot (start-4 c .args .p))
+payer c =
+    let e : tie.Else1 = c .before .before .before .before .before .before in
+    live-in _ _ (not-of (e .before .is-sound .ensures) (e .if1 .left)) (omega arith) (omega arith)
+    (not-of (c .before .is-live .ensures) (c .if4 .left))
+
+is-sound-requires : tie.Need-is-sound-requires
+is-sound-requires c κs = search needs
+
+returns : tie.Need-returns
+unfolding retireTable
+returns c = rw (not-of (c .before .is-sound .ensures) (c .if1 .taken))
+
+returns-2 : tie.Need-returns-2
+unfolding retireTable
+returns-2 c = sym (past-1 (c .before .before) ∙ rw (le-leb _ _ (c .if2 .taken)))
+
+returns-3 : tie.Need-returns-3
+unfolding retireTable
+returns-3 c = sym (past-2 (c .before .before) ∙ rw (le-leb _ _ (c .if3 .taken)))
+
+is-live-requires : tie.Need-is-live-requires
+is-live-requires c κs = search needs
+
+returns-4 : tie.Need-returns-4
+unfolding retireTable
+returns-4 c = sym (past-3 (c .before .before) ∙ rw (not-of (c .before .is-live .ensures) (c .if4 .taken)))
+
+returns-5 : tie.Need-returns-5
+unfolding retireTable
+returns-5 c = sym (past-4 (c .before .before) ∙ rw (eq-eqb _ _ (c .if5 .taken)))
+
+has-shortage-requires : tie.Need-has-shortage-requires
+has-shortage-requires c κs = search needs
+
+returns-6 : tie.Need-returns-6
+unfolding retireTable
+returns-6 c =
+    sym
+    (past-5 (c .before .before .before .before)
+    ∙ rw (← (c .before .has-shortage .ensures), c .if6 .taken))
+
+figure-at-requires : tie.Need-figure-at-requires
+figure-at-requires c κs = payer (c .before .before .before .before .before .before .before .before)
+
+returns-7 : tie.Need-returns-7
+unfolding retireTable
+returns-7 c =
+    sym
+    (past-6 (c .before .before .before .before .before)
+    ∙ rw (← (c .before .before .figure-at .ensures), lt-ltb _ _ (c .if7 .taken)))
+
+returns-8 : tie.Need-returns-8
+unfolding retireTable
+returns-8 c =
+    sym
+    (past-6 (c .before .before .before .before .before)
+    ∙ rw (← (c .before .before .figure-at .ensures), le-ltb _ _ (c .if7 .left)))
+
+pub retire-verdict-spec : {M : Type 1} → statement M
+retire-verdict-spec =
+    tie.close
+    (tie.spec
+    is-sound-requires
+    returns
+    returns-2
+    returns-3
+    is-live-requires
+    returns-4
+    returns-5
+    has-shortage-requires
+    returns-6
+    figure-at-requires
+    returns-7
+    returns-8)

@@ -1,0 +1,60 @@
+-- Demand 3: ONE theorem about lists of calls of any length, begun on a fresh book. `Demand3` is its statement; the proof is
+-- `demand3` of proofs/Reconciliation.antt. The history of a list pairs each call with whether it was accepted; the accounts
+-- see the history alone, so nothing of a book reaches them.
+use Prim.Native.Nat.{_+_, _≤_}
+use mathlib.Core.Bool.{Bool, true, false}
+use mathlib.Core.List.{List, [], _∷_, _++_}
+use mathlib.Core.Path.{_≡_}
+use Rattle.book.specs.Ledger.{Key, In, at}
+use Rattle.book.specs.Postings.{freshBook, coveredShortage}
+use Rattle.book.specs.Rules.{posted}
+use Rattle.book.specs.Accounts.{Accounts, Entry, accountsOf}
+use Rattle.book.specs.declared.ledger.Book.{Book}
+use Rattle.book.specs.declared.kinds.Call.{Call}
+use Rattle.book.specs.declared.kinds.Application.{Application}
+use Rattle.book.specs.declared.answers.Answer.{Answer}
+use Rattle.book.specs.declared.answers.Answer.the-variants.{Refused, Filed, Closed, Left}
+
+-- "Accepted means answered without" a refusal.
+unfoldable pub isAccepted : Answer → Bool
+isAccepted (Refused r) = false
+isAccepted (Filed p n) = true
+isAccepted (Closed n) = true
+isAccepted (Left m) = true
+
+abbrev pub entryOf : Book → Call → Entry
+entryOf b c = record { call = c; accepted = isAccepted (posted b c .answer) }
+
+-- the history of a list of calls begun on a book, each call put to the book that the one before left
+unfoldable pub history : Book → List Call → List Entry
+history b [] = []
+history b (c ∷ cs) = entryOf b c ∷ history (posted b c .book) cs
+
+-- the book after the list
+unfoldable pub bookAfter : Book → List Call → Book
+bookAfter b [] = b
+bookAfter b (c ∷ cs) = bookAfter (posted b c .book) cs
+
+-- a lot is earned + bought - sold - applied - retired, and a shortage is shortfall - covered: stated as sums, so that no
+-- difference below zero can hide
+pub record Reconciled (b : Book) (a : Accounts) (k : Key) : Type 0 where
+  pub lot : at (b .lots) k + a .sold k + a .applied k + a .retired k ≡ a .earned k + a .bought k
+  pub shortage : at (b .shortages) k + a .covered k ≡ a .shortfall k
+
+-- "the shortage that these accounts give its maker, set and year just before it is at least its Mg; its year is at most its
+-- vintage + 5, and its vintage at most its year + 3"
+pub record Covers (a : Accounts) (p : Application) : Type 0 where
+  pub enough : a .covered (coveredShortage p) + p .mg ≤ a .shortfall (coveredShortage p)
+  pub notTooLate : p .year ≤ p .vintage + 5
+  pub notTooEarly : p .vintage ≤ p .year + 3
+
+abbrev pub acceptedApplication : Application → Entry
+acceptedApplication p = record { call = Call.Apply p; accepted = true }
+
+pub record Demand3 (cs : List Call) : Type 0 where
+  -- every lot and every shortage, of every maker, set and year 2014 to 2037
+  pub reconciled : (k : Key) → In k → Reconciled (bookAfter freshBook cs) (accountsOf (history freshBook cs)) k
+  -- every accepted application of the list, wherever it stands in it
+  pub covers :
+      (before after : List Entry) (p : Application)
+      → history freshBook cs ≡ before ++ acceptedApplication p ∷ after → Covers (accountsOf before) p

@@ -1,0 +1,13 @@
+pub mod Sizes
+pub mod Below
+pub mod Ledger
+pub mod Soundness
+pub mod Life
+pub mod Refusals
+pub mod Postings
+pub mod Rules
+pub mod Accounts
+pub mod Demand3
+pub mod Companions
+pub mod Listing
+pub mod Marked

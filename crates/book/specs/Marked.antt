@@ -1,0 +1,76 @@
+-- Document 01, "Marked figures", P1 to P12, of the rules together.
+use Prim.Native.Nat.{ℕ}
+use mathlib.Core.Path.{_≡_}
+use mathlib.Core.Bool.{true}
+use mathlib.Core.List.{[], _∷_}
+use lib.IntN.{pos}
+use lib.ListN.{replicate}
+use Rattle.figuring.specs.Marked as Figuring
+use Rattle.book.specs.Sizes.{cells, places, allParts}
+use Rattle.book.specs.Life.{live, expired, openShort, overdue}
+use Rattle.book.specs.Refusals.{refusalIn}
+use Rattle.book.specs.Postings.{freshBook, earnedBy}
+use Rattle.book.specs.Rules.{posted}
+use Rattle.book.specs.Demand3.{isAccepted}
+use Rattle.book.specs.declared.ledger.Book.{Book}
+use Rattle.book.specs.declared.kinds.Call.{Call}
+
+-- the run's first filing, with another family number and FCL
+abbrev pub filingWith : ℕ → ℕ → Call
+filingWith family fcl =
+    Call.File (record {
+      maker = 0;
+      set = 3;
+      year = 2014;
+      «vehicle_use» = 1;
+      family = family;
+      fcl = fcl;
+      cf = 28000;
+      volume = 1000;
+      life = 435;
+    })
+
+-- a book with nothing in it whose open year is 2037
+unfoldable pub lastOpen : Book
+lastOpen =
+    record {
+      «open_year» = 2037;
+      marks = replicate cells 0;
+      parts = replicate allParts (pos 0);
+      lots = replicate places 0;
+      shortages = replicate places 0;
+    }
+
+-- a book with two parts of 4,000,000 in cell 0
+unfoldable pub twoParts : Book
+twoParts =
+    record {
+      «open_year» = 2014;
+      marks = 3 ∷ [];
+      parts = pos 4000000 ∷ pos 4000000 ∷ [];
+      lots = [];
+      shortages = [];
+    }
+
+pub record MarkedFigures : Type 0 where
+  -- P1 to P7, and of P10 the limits
+  pub figuring : Figuring.MarkedFigures
+  -- P7 once more, of a close: two parts of 4,000,000 in a cell earn 1
+  pub P7 : earnedBy twoParts 0 ≡ 1
+  -- P8 vintage 2014 live in open year 2020, expired in 2021
+  pub P8 : (live 2020 2014 ≡ true) × (expired 2021 2014 ≡ true)
+  -- P9 shortage 2014 open in 2018, overdue in 2019
+  pub P9 : (openShort 2018 2014 ≡ true) × (overdue 2019 2014 ≡ true)
+  -- P10 FCL 1,200 taken; 0 and 1,201 refused by 8
+  pub P10 :
+      (isAccepted (posted freshBook (filingWith 0 1200) .answer) ≡ true)
+      × (refusalIn (posted freshBook (filingWith 0 0) .answer) ≡ 8)
+      × (refusalIn (posted freshBook (filingWith 0 1201) .answer) ≡ 8)
+  -- P11 family 63 taken, 64 refused by 7
+  pub P11 :
+      (isAccepted (posted freshBook (filingWith 63 465) .answer) ≡ true)
+      × (refusalIn (posted freshBook (filingWith 64 465) .answer) ≡ 7)
+  -- P12 close 2037 taken, then close 2038 refused by 5
+  pub P12 :
+      (isAccepted (posted lastOpen (Call.Close 2037) .answer) ≡ true)
+      × (refusalIn (posted (posted lastOpen (Call.Close 2037) .book) (Call.Close 2038) .answer) ≡ 5)

@@ -1,0 +1,144 @@
+-- Document 01, "Postings": what each accepted call does to the book, and what it returns.
+use Prim.Native.Nat.{ℕ, zero, suc, _+_, _-_, _*_, _%_}
+use mathlib.Core.Bool.{Bool}
+use mathlib.Core.List.{List}
+use lib.Dec.{ltb}
+use lib.ListN.{getD, set, replicate}
+use lib.IntN.{ℤ, pos}
+use Rattle.figuring.specs.Years.{firstYear}
+use Rattle.figuring.specs.Standards.{standardFor, gramsOf}
+use Rattle.figuring.specs.Parts.{partOf}
+use Rattle.figuring.specs.Netting.{netOf, earnedOf, shortfallOf}
+use Rattle.book.specs.Sizes.{sets, cells, families, years, places, allParts}
+use Rattle.book.specs.Below.{countBelow}
+use Rattle.book.specs.Ledger.{Key, key, cell, at, lower, raise, withMark, filedIn, cellSum}
+use Rattle.book.specs.declared.ledger.Book.{Book}
+use Rattle.book.specs.declared.kinds.Filing.{Filing}
+use Rattle.book.specs.declared.kinds.Trade.{Trade}
+use Rattle.book.specs.declared.kinds.Application.{Application}
+use Rattle.book.specs.declared.kinds.Retirement.{Retirement}
+use Rattle.book.specs.declared.answers.Answer.{Answer}
+use Rattle.book.specs.declared.answers.Posted.{Posted}
+
+-- "Fresh: year 2014, all else zero."
+unfoldable pub freshBook : Book
+freshBook =
+    record {
+      «open_year» = firstYear;
+      marks = replicate cells 0;
+      parts = replicate allParts (pos 0);
+      lots = replicate places 0;
+      shortages = replicate places 0;
+    }
+
+-- ---- File: "sets the mark and the part. Returns the part and how many families of that cell are now filed."
+
+-- a filing's part, figured from its own arguments
+unfoldable pub partFor : Filing → ℤ
+partFor f =
+    partOf (gramsOf (standardFor (f .set) (f .«vehicle_use») (f .year))) (f .fcl) (f .cf) (f .volume) (f .life)
+
+abbrev pub filingCell : Filing → ℕ
+filingCell f = cell (f .maker) (f .set)
+
+-- a part stored in a cell, with its family's bit set
+unfoldable pub stored : Book → ℕ → ℕ → ℤ → Posted
+stored b c family z =
+    let mark = withMark (getD (b .marks) c 0) family in
+    record {
+      answer = Answer.Filed (record { 0 = z }) (filedIn mark);
+      book =
+          record {
+            «open_year» = b .«open_year»;
+            marks = set (b .marks) c mark;
+            parts = set (b .parts) (c * families + family) z;
+            lots = b .lots;
+            shortages = b .shortages;
+          };
+    }
+
+abbrev pub filed : Book → Filing → Posted
+filed b f = stored b (filingCell f) (f .family) (partFor f)
+
+-- ---- Close: "for each cell the parts are added exactly, then rounded once"; what comes out becomes the lot or the
+-- shortage of that year, both written, 0 where there is nothing
+
+abbrev pub earnedBy : Book → ℕ → ℕ
+earnedBy b c = earnedOf (netOf (cellSum (b .parts) c))
+
+abbrev pub shortBy : Book → ℕ → ℕ
+shortBy b c = shortfallOf (netOf (cellSum (b .parts) c))
+
+-- the figures v of the cells below n, written in the year that is i years after the first
+unfoldable pub netted : ℕ → (ℕ → ℕ) → ℕ → List ℕ → List ℕ
+netted i v zero l = l
+netted i v (suc n) l = set (netted i v n l) (n * years + i) (v n)
+
+-- "Marks and parts are cleared; the open year rises by one. Returns the number of cells that closed short."
+unfoldable pub closed : Book → Posted
+closed b =
+    record {
+      answer = Answer.Closed (countBelow cells (λ c. ltb 0 (shortBy b c)));
+      book =
+          record {
+            «open_year» = b .«open_year» + 1;
+            marks = replicate cells 0;
+            parts = replicate allParts (pos 0);
+            lots = netted (b .«open_year» - firstYear) (earnedBy b) cells (b .lots);
+            shortages = netted (b .«open_year» - firstYear) (shortBy b) cells (b .shortages);
+          };
+    }
+
+-- ---- Trade, Apply, Retire: "Each returns what is left in the paying lot."
+
+abbrev pub moved : Book → List ℕ → List ℕ → Book
+moved b l s =
+    record {
+      «open_year» = b .«open_year»;
+      marks = b .marks;
+      parts = b .parts;
+      lots = l;
+      shortages = s;
+    }
+
+abbrev pub leaving : Book → Key → ℕ → Answer
+leaving b k n = Answer.Left (record { 0 = at (b .lots) k - n })
+
+-- "Trade (from, to, set, vintage, Mg): moves between two lots."
+abbrev pub sellerLot : Trade → Key
+sellerLot t = key (t .from) (t .set) (t .vintage)
+
+abbrev pub buyerLot : Trade → Key
+buyerLot t = key (t .to) (t .set) (t .vintage)
+
+unfoldable pub traded : Book → Trade → Posted
+traded b t =
+    record {
+      answer = leaving b (sellerLot t) (t .mg);
+      book = moved b (raise (lower (b .lots) (sellerLot t) (t .mg)) (buyerLot t) (t .mg)) (b .shortages);
+    }
+
+-- "Apply (maker, set, vintage, year, Mg): lowers the lot and the shortage of that year."
+abbrev pub appliedLot : Application → Key
+appliedLot p = key (p .maker) (p .set) (p .vintage)
+
+abbrev pub coveredShortage : Application → Key
+coveredShortage p = key (p .maker) (p .set) (p .year)
+
+unfoldable pub applied : Book → Application → Posted
+applied b p =
+    record {
+      answer = leaving b (appliedLot p) (p .mg);
+      book = moved b (lower (b .lots) (appliedLot p) (p .mg)) (lower (b .shortages) (coveredShortage p) (p .mg));
+    }
+
+-- "Retire (maker, set, vintage, Mg): lowers the lot."
+abbrev pub retiredLot : Retirement → Key
+retiredLot p = key (p .maker) (p .set) (p .vintage)
+
+unfoldable pub retired : Book → Retirement → Posted
+retired b p =
+    record {
+      answer = leaving b (retiredLot p) (p .mg);
+      book = moved b (lower (b .lots) (retiredLot p) (p .mg)) (b .shortages);
+    }

@@ -1,0 +1,104 @@
+-- Document 01, "Refusal list": its numbers, and how an ordered table of tests refuses.
+use Prim.Native.Nat.{ℕ, _-_}
+use mathlib.Core.Bool.{Bool, true, false}
+use mathlib.Core.List.{List, [], _∷_}
+use lib.IntN.{ℤ, pos}
+use lib.ListN.{getD}
+use Rattle.book.specs.declared.answers.Refusal.{Refusal}
+use Rattle.book.specs.declared.answers.Refusal.the-variants.{NotAForm, UnsoundBook, UnknownMaker, UnknownSet, YearNotOpen, NoStandard, UnknownFamily, OutOfLimits, AlreadyFiled, VintageNotLive, ZeroAmount, SameMaker, HasShortage, NoOpenShortage, AboveLot, AboveShortage}
+use Rattle.book.specs.declared.answers.Answer.{Answer}
+use Rattle.book.specs.declared.answers.Answer.the-variants.{Refused, Filed, Closed, Left}
+use Rattle.book.specs.declared.answers.Verdict.{Verdict}
+use Rattle.book.specs.declared.answers.Verdict.the-variants.{Accepted, Refuse}
+
+-- the paper's number of each refusal
+unfoldable pub numberOf : Refusal → ℕ
+-- The line isn't one of the forms (text only).
+numberOf NotAForm = 1
+-- The book isn't sound.
+numberOf UnsoundBook = 2
+-- A maker is above 7 (either one, in a trade).
+numberOf UnknownMaker = 3
+-- The set is above 3.
+numberOf UnknownSet = 4
+-- The year filed or closed isn't the open year, or the open year is 2038.
+numberOf YearNotOpen = 5
+-- There is no standard for this set, use and year.
+numberOf NoStandard = 6
+-- The family number is above 63.
+numberOf UnknownFamily = 7
+-- FCL, CF, volume or life is outside its limits.
+numberOf OutOfLimits = 8
+-- The family number is already filed in this cell this year.
+numberOf AlreadyFiled = 9
+-- The vintage isn't live.
+numberOf VintageNotLive = 10
+-- The amount is 0.
+numberOf ZeroAmount = 11
+-- A trade has the same maker twice.
+numberOf SameMaker = 12
+-- The selling or retiring maker has a shortage above 0 in that set, open or overdue.
+numberOf HasShortage = 13
+-- The application's year has no open shortage above 0 in that cell.
+numberOf NoOpenShortage = 14
+-- The amount is above the lot.
+numberOf AboveLot = 15
+-- The amount is above the shortage.
+numberOf AboveShortage = 16
+
+-- the number of an answer's refusal, 0 where the call was accepted
+unfoldable pub refusalIn : Answer → ℕ
+refusalIn (Refused r) = numberOf r
+refusalIn (Filed p n) = 0
+refusalIn (Closed n) = 0
+refusalIn (Left m) = 0
+
+-- the values of an accepted call, in the paper's order (a refusal's, "zero for the other results", are none here): a filing's part and count, a close's cells that closed short,
+-- what is left in the paying lot
+unfoldable pub valuesIn : Answer → List ℤ
+valuesIn (Refused r) = []
+valuesIn (Filed p n) = p .0 ∷ pos n ∷ []
+valuesIn (Closed n) = pos n ∷ []
+valuesIn (Left m) = pos (m .0) ∷ []
+
+-- the refusals in the paper's order, from 1 on, and the one that has a number of the list
+abbrev pub refusals : List Refusal
+refusals =
+    NotAForm
+    ∷ UnsoundBook
+    ∷ UnknownMaker
+    ∷ UnknownSet
+    ∷ YearNotOpen
+    ∷ NoStandard
+    ∷ UnknownFamily
+    ∷ OutOfLimits
+    ∷ AlreadyFiled
+    ∷ VintageNotLive
+    ∷ ZeroAmount
+    ∷ SameMaker
+    ∷ HasShortage
+    ∷ NoOpenShortage
+    ∷ AboveLot
+    ∷ AboveShortage
+    ∷ []
+
+abbrev pub refusal : ℕ → Refusal
+refusal n = getD refusals (n - 1) NotAForm
+
+-- one row of a call's table: where its test holds, the refusal of its number
+pub record Row : Type 0 where
+  pub test : Bool
+  pub why : Refusal
+
+infix 10 _⇒_
+abbrev pub _⇒_ : Bool → ℕ → Row
+t ⇒ n = record { test = t; why = refusal n }
+
+abbrev pub orElse : Bool → Refusal → Verdict → Verdict
+orElse true r v = Refuse r
+orElse false r v = v
+
+-- refused with the first that applies, accepted when none does
+abbrev pub firstRefusal : List Row → Verdict
+firstRefusal [] = Accepted
+firstRefusal (x ∷ xs) = orElse (x .test) (x .why) (firstRefusal xs)

@@ -1,0 +1,60 @@
+-- Document 01, "Sound means": decided for any book whatever.
+use Prim.Native.Nat.{ℕ, _+_}
+use mathlib.Core.Bool.{Bool, _&&_, _||_}
+use lib.Dec.{ltb, leb, eqb}
+use lib.IntN.{ℤ, natAbs}
+use lib.ListN.{getD}
+use Rattle.figuring.specs.Years.{firstYear}
+use Rattle.figuring.specs.Parts.{partMost}
+use Rattle.book.specs.Sizes.{makers, sets, families, years, allClosed, shortageMost, lotsMost}
+use Rattle.book.specs.Below.{allBelow, sumBelow}
+use Rattle.book.specs.Ledger.{key, cell, at, marked, partAt}
+use Rattle.book.specs.declared.ledger.Book.{Book}
+
+-- "every part within ±3.84 × 10^15, and zero where unmarked"
+unfoldable pub partSound : ℕ → ℕ → ℤ → Bool
+partSound mark family z = leb (natAbs z) partMost && (marked mark family || eqb (natAbs z) 0)
+
+unfoldable pub familySound : Book → ℕ → ℕ → Bool
+familySound b c f = partSound (getD (b .marks) c 0) f (partAt (b .parts) c f)
+
+-- "every shortage at most 2.5 × 10^10"; "lots and shortages of the open year and later zero"
+unfoldable pub figuresSound : ℕ → ℕ → ℕ → ℕ → Bool
+figuresSound openYear year lot shortage =
+    leb shortage shortageMost && (ltb year openYear || (eqb lot 0 && eqb shortage 0))
+
+-- i counts the years from the first
+unfoldable pub yearSound : Book → ℕ → ℕ → ℕ → Bool
+yearSound b m s i =
+    figuresSound (b .«open_year») (firstYear + i) (at (b .lots) (key m s (firstYear + i)))
+    (at (b .shortages) (key m s (firstYear + i)))
+
+unfoldable pub cellSound : Book → ℕ → ℕ → Bool
+cellSound b m s = allBelow families (familySound b (cell m s)) && allBelow years (yearSound b m s)
+
+unfoldable pub makerSound : Book → ℕ → Bool
+makerSound b m = allBelow sets (cellSound b m)
+
+-- "A fault in any cell makes the whole book unsound."
+unfoldable pub cellsSound : Book → Bool
+cellsSound b = allBelow makers (makerSound b)
+
+-- "for each set and vintage the lots of all makers together at most 2 × 10^11"
+abbrev pub lotOf : Book → ℕ → ℕ → ℕ → ℕ
+lotOf b s i m = at (b .lots) (key m s (firstYear + i))
+
+unfoldable pub totalSound : Book → ℕ → ℕ → Bool
+totalSound b s i = leb (sumBelow makers (lotOf b s i)) lotsMost
+
+unfoldable pub setSound : Book → ℕ → Bool
+setSound b s = allBelow years (totalSound b s)
+
+unfoldable pub totalsSound : Book → Bool
+totalsSound b = allBelow sets (setSound b)
+
+-- "open year in range"
+unfoldable pub yearInRange : ℕ → Bool
+yearInRange y = leb firstYear y && leb y allClosed
+
+unfoldable pub sound : Book → Bool
+sound b = yearInRange (b .«open_year») && (cellsSound b && totalsSound b)

@@ -1,0 +1,76 @@
+// The book of document 01, as a struct by value. Its arrays hold plain numbers: parts in part units, lots and shortages in
+// Mg. Part and Mg are the types of every call's results.
+ghost use mathlib.Core.Path.{_≡_};
+ghost use Prim.Native.Nat.{ℕ, _+_, _*_, _<_, _≤_};
+ghost use Rattle.figuring.specs.Years.{firstYear, lastYear};
+ghost use Rattle.book.specs.Sizes.{makers, sets, families, places};
+ghost use Rattle.book.specs.Ledger.{key, In, place, at, marked, withMark};
+ghost use Rattle.book.specs.Postings.{freshBook};
+use figuring::years::FIRST_YEAR;
+
+pub const MAKERS: u64 = 8;
+
+pub const SETS: u64 = 4;
+
+pub const CELLS: u64 = 32;
+
+pub const FAMILIES: u64 = 64;
+
+pub const YEARS: u64 = 24;
+// The open year once all years are closed.
+pub const ALL_CLOSED: u64 = 2038;
+
+pub struct Book {
+    pub open_year: u64,
+    // For each cell a filing mark, one bit a family.
+    pub marks: [u64; 32],
+    // For each cell and family its part in the open year.
+    pub parts: [i64; 2048],
+    // For each cell and year its lot and its shortage.
+    pub lots: [u64; 768],
+    pub shortages: [u64; 768],
+}
+
+pub fn fresh() -> Book
+    ensures { λ r. ⌜ r ≡ freshBook ⌝ }
+{
+    Book {
+        open_year: FIRST_YEAR,
+        marks: [0; 32],
+        parts: [0; 2048],
+        lots: [0; 768],
+        shortages: [0; 768],
+    }
+}
+
+// Where the lot and the shortage of a maker, a set and a year stand.
+pub(crate) fn place_of(maker: u64, set: u64, year: u64) -> u64
+    requires { ⌜ In (key maker set year) ⌝ }
+    ensures { λ r. ⌜ (r ≡ place (key maker set year)) × (r < places) ⌝ }
+{
+    (maker * SETS + set) * YEARS + (year - FIRST_YEAR)
+}
+
+// The figure of a maker, a set and a year.
+pub(crate) fn figure_at(figures: &[u64; 768], maker: u64, set: u64, year: u64) -> u64
+    requires { ⌜ In (key maker set year) ⌝ }
+    ensures { λ r. ⌜ r ≡ at (now (figures .entry)) (key maker set year) ⌝ }
+{
+    figures[place_of(maker, set, year) as usize]
+}
+
+// Whether the family's bit of a mark is one.
+pub(crate) fn is_marked(mark: u64, family: u64) -> bool
+    requires { ⌜ family < families ⌝ }
+    ensures { λ r. ⌜ r ≡ marked mark family ⌝ }
+{
+    (mark >> family) % 2 == 1
+}
+
+// The mark with the family's bit set.
+pub(crate) fn with_bit(mark: u64, family: u64) -> u64
+    requires { ⌜ family < families ⌝ }
+    ensures { λ r. ⌜ r ≡ withMark mark family ⌝ }
+{
+    mark | (1 << family)
+}

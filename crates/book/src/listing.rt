@@ -1,0 +1,81 @@
+// What a listing shows of a maker, a set and a year, for any three numbers and any book.
+ghost use mathlib.Core.Path.{_≡_};
+ghost use Rattle.book.specs.Listing.{lotEntry, shortageEntry, isCellYear};
+use crate::ledger::Book;
+use crate::ledger::MAKERS;
+use crate::ledger::SETS;
+use crate::ledger::figure_at;
+use crate::life::is_expired;
+use crate::life::is_live;
+use crate::life::is_open;
+use crate::life::is_overdue;
+use figuring::units::Mg;
+use figuring::years::FIRST_YEAR;
+use figuring::years::LAST_YEAR;
+
+// A lot above 0, live or expired; or that there is none to show.
+pub enum LotEntry {
+    Live(Mg),
+    Expired(Mg),
+    NoLot,
+}
+
+// A shortage above 0, open or overdue; or that there is none to show.
+pub enum ShortageEntry {
+    Open(Mg),
+    Overdue(Mg),
+    NoShortage,
+}
+
+pub fn lot_entry(book: Book, maker: u64, set: u64, vintage: u64) -> LotEntry
+    ensures { λ r. ⌜ r ≡ lotEntry book maker set vintage ⌝ }
+{
+    if !is_cell_year(maker, set, vintage) {
+        return LotEntry::NoLot;
+    }
+    let mg = figure_at(&book.lots, maker, set, vintage);
+    if mg == 0 {
+        return LotEntry::NoLot;
+    }
+    if is_live(book.open_year, vintage) {
+        return LotEntry::Live(Mg(mg));
+    }
+    if is_expired(book.open_year, vintage) {
+        return LotEntry::Expired(Mg(mg));
+    }
+    LotEntry::NoLot
+}
+
+pub fn shortage_entry(book: Book, maker: u64, set: u64, year: u64) -> ShortageEntry
+    ensures { λ r. ⌜ r ≡ shortageEntry book maker set year ⌝ }
+{
+    if !is_cell_year(maker, set, year) {
+        return ShortageEntry::NoShortage;
+    }
+    let mg = figure_at(&book.shortages, maker, set, year);
+    if mg == 0 {
+        return ShortageEntry::NoShortage;
+    }
+    if is_open(book.open_year, year) {
+        return ShortageEntry::Open(Mg(mg));
+    }
+    if is_overdue(book.open_year, year) {
+        return ShortageEntry::Overdue(Mg(mg));
+    }
+    ShortageEntry::NoShortage
+}
+
+fn is_cell_year(maker: u64, set: u64, year: u64) -> bool
+    ensures { λ r. ⌜ r ≡ isCellYear maker set year ⌝ }
+{
+    if maker >= MAKERS {
+        return false;
+    }
+    if set >= SETS {
+        return false;
+    }
+    if year < FIRST_YEAR {
+        return false;
+    }
+    year <= LAST_YEAR
+}

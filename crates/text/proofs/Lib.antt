@@ -1,0 +1,15 @@
+pub mod DigitLaws
+pub mod StoreLaws
+pub mod PatternLaws
+pub mod NumeralLaws
+pub mod FillLaws
+pub mod CanonLaws
+pub mod RenderLaws
+pub mod FormLaws
+pub mod AnswerLaws
+pub mod FeedLaws
+pub mod SessionLaws
+pub mod ListingLaws
+pub mod WholeLaws
+pub mod ReaderWalk
+pub mod ExampleLaws

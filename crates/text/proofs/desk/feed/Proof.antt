@@ -1,0 +1,20 @@
+use borrow.Author.Tests.{le-leb, lt-leb}
+use Rattle.text.proofs.FeedLaws.{unfed, fed}
+use borrow.Author.Needs.{needs}
+use Rattle.text.proofs.desk.feed.Statement.{statement}
+use Rattle.text.proofs.desk.feed.Tie as tie
+
+returns : tie.Need-returns
+returns c = unfed (lt-leb _ _ (c .if1 .taken))
+
+take-chunk-requires : tie.Need-take-chunk-requires
+take-chunk-requires c κs = search needs
+
+same-length : tie.Need-same-length
+same-length c = search needs
+
+returns-2 : tie.Need-returns-2
+returns-2 c = fed (le-leb _ _ (c .before .before .before .before .if1 .left)) (c .before .before .take-chunk .ensures)
+
+pub feed-spec : {M : Type 1} → statement M
+feed-spec = tie.close (tie.spec returns take-chunk-requires same-length returns-2)

@@ -1,0 +1,76 @@
+-- Document 01: "answers each line with `(ok ..)` with the results in the order above or `(no N)`".
+use Prim.Native.Nat.{ℕ, suc}
+use mathlib.Core.Path.{_≡_}
+use mathlib.Core.List.{List, [], _∷_, _++_}
+use lib.IntN.{ℤ, pos, negsuc}
+use Rattle.book.specs.declared.ledger.Book.{Book}
+use Rattle.book.specs.declared.kinds.Call.{Call}
+use Rattle.book.specs.declared.answers.Posted.{Posted}
+use Rattle.book.specs.declared.answers.Refusal.{Refusal}
+use Rattle.book.specs.declared.answers.Answer.{Answer}
+use Rattle.book.specs.Refusals.{numberOf, valuesIn}
+use Rattle.book.specs.Rules.{posted, refusedWith}
+use Rattle.text.specs.declared.lines.Line.{Line}
+use Rattle.text.specs.declared.answering.Step.{Step}
+use Rattle.text.specs.Ascii.{ascii}
+use Rattle.text.specs.Numeral.{numeral}
+use Rattle.text.specs.Pattern.{filled}
+use Rattle.text.specs.Line.{lineOf}
+use Rattle.text.specs.Rendered.{IsText, NoText}
+use Rattle.text.specs.Placing.{Stands}
+
+-- no answer's line is longer
+abbrev pub answerRoom : ℕ
+answerRoom = 64
+
+-- a filing's part, a negative one with its minus, and its count
+abbrev pub filedText : ℤ → ℕ → List ℕ
+filedText (pos n) k = filled (ascii "(ok # #)\n") (n ∷ k ∷ [])
+filedText (negsuc n) k = filled (ascii "(ok -# #)\n") (suc n ∷ k ∷ [])
+
+-- an answer's line
+unfoldable pub textOf : Answer → List ℕ
+textOf (Answer.Refused r) = filled (ascii "(no #)\n") (numberOf r ∷ [])
+textOf (Answer.Filed p k) = filedText (p .0) k
+textOf (Answer.Closed k) = filled (ascii "(ok #)\n") (k ∷ [])
+textOf (Answer.Left m) = filled (ascii "(ok #)\n") (m .0 ∷ [])
+
+-- what a line gives that is read so: the book layer's outcome; or refusal 1, "the line isn't one of the forms", and the book unchanged
+abbrev pub postedLine : Book → Line → Posted
+postedLine b Line.NoForm = refusedWith b Refusal.NotAForm
+postedLine b (Line.Form c) = posted b c
+
+-- a line answered with a book: its answer, and the book after it, for any bytes and any book
+unfoldable pub answerTo : Book → List ℕ → Posted
+answerTo b s = postedLine b (lineOf s)
+
+-- by the rendering of calls alone
+pub record ByText : Type 0 where
+  pub form : (b : Book) (s : List ℕ) (c : Call) → IsText s c → answerTo b s ≡ posted b c
+  pub no-form : (b : Book) (s : List ℕ) → NoText s → answerTo b s ≡ refusedWith b Refusal.NotAForm
+
+-- a line answered into a buffer: the book after it, and the answer's text from at on
+pub record Answered (b : Book) (s out : List ℕ) (at : ℕ) (r : Step) (out′ : List ℕ) : Type 0 where
+  pub book-is : r .book ≡ answerTo b s .book
+  pub stands : Stands (textOf (answerTo b s .answer)) at out (r .at) out′
+
+-- ---- a text says what the book layer's definition of an answer's values says
+-- a signed number, a negative one with its minus
+abbrev pub signed : ℤ → List ℕ
+signed (pos n) = numeral n
+signed (negsuc n) = ascii "-" ++ numeral (suc n)
+
+-- each value after a space, and then the end
+abbrev pub spaced : List ℤ → List ℕ → List ℕ
+spaced [] end = end
+spaced (v ∷ vs) end = ascii " " ++ (signed v ++ spaced vs end)
+
+-- `(ok ..)` with an answer's values, in the paper's order
+abbrev pub okText : Answer → List ℕ
+okText a = ascii "(ok" ++ spaced (valuesIn a) (ascii ")\n")
+
+pub record Says : Type 0 where
+  pub refused : (r : Refusal) → textOf (Answer.Refused r) ≡ ascii "(no " ++ (numeral (numberOf r) ++ ascii ")\n")
+  pub filed : (z : ℤ) (k : ℕ) → textOf (Answer.Filed (record { 0 = z }) k) ≡ okText (Answer.Filed (record { 0 = z }) k)
+  pub closed : (k : ℕ) → textOf (Answer.Closed k) ≡ okText (Answer.Closed k)
+  pub left : (n : ℕ) → textOf (Answer.Left (record { 0 = n })) ≡ okText (Answer.Left (record { 0 = n }))

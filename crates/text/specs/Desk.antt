@@ -1,0 +1,78 @@
+-- The terminal as it takes its input byte by byte.
+use Prim.Native.Nat.{ℕ, _≤_}
+use mathlib.Core.Bool.{Bool, true, false, cond}
+use mathlib.Core.Path.{_≡_}
+use mathlib.Core.List.{List, [], _∷_, _++_}
+use lib.Dec.{ltb, eqb}
+use lib.ListN.{length, take, replicate}
+use lib.Seq.{sets}
+use Rattle.book.specs.declared.ledger.Book.{Book}
+use Rattle.book.specs.Postings.{freshBook}
+use Rattle.text.specs.declared.desk.Desk.{Desk}
+use Rattle.text.specs.declared.desk.Fed.{Fed}
+use Rattle.text.specs.Answers.{textOf, answerTo}
+
+-- a terminal: its book, the bytes of the line that has not ended yet, and what it has said
+pub record Terminal : Type 0 where
+  pub book : Book
+  pub held : List ℕ
+  pub said : List ℕ
+
+-- a line is held up to 161 bytes, one more than the longest form has: they stand for any longer line
+abbrev pub mostHeld : ℕ
+mostHeld = 161
+
+-- the code of a line feed
+abbrev pub lineFeed : ℕ
+lineFeed = 10
+
+-- a byte that goes on with a line
+abbrev pub holding : Terminal → ℕ → Terminal
+holding t b = record { book = t .book; held = cond (ltb (length (t .held)) mostHeld) (t .held ++ (b ∷ [])) (t .held); said = t .said }
+
+-- the end of a line
+abbrev pub answering : Terminal → Terminal
+answering t =
+    record {
+      book = answerTo (t .book) (t .held) .book;
+      held = [];
+      said = t .said ++ textOf (answerTo (t .book) (t .held) .answer);
+    }
+
+abbrev pub takes : Terminal → ℕ → Terminal
+takes t b = cond (eqb b lineFeed) (answering t) (holding t b)
+
+unfoldable pub takesAll : Terminal → List ℕ → Terminal
+takesAll t [] = t
+takesAll t (b ∷ s) = takesAll (takes t b) s
+
+abbrev pub terminalIf : Bool → Terminal → Terminal → Terminal
+terminalIf true a b = a
+terminalIf false a b = b
+
+-- the end of the input: what is held is a last line that lacks its line feed; where nothing is held there is none
+abbrev pub ends : Terminal → Terminal
+ends t = terminalIf (ltb 0 (length (t .held))) (answering t) t
+
+-- a desk as a terminal that has said nothing yet, whatever its length says
+abbrev pub atDesk : Desk → Terminal
+atDesk d = record { book = d .book; held = take (d .len) (d .held); said = [] }
+
+abbrev pub openDesk : Desk
+openDesk = record { book = freshBook; held = replicate mostHeld 0; len = 0 }
+
+-- the desk after a call is a terminal's, and the buffer starts with what the terminal has said
+pub record Serves (t : Terminal) (out : List ℕ) (r : Fed) (out′ : List ℕ) : Type 0 where
+  pub book-is : r .desk .book ≡ t .book
+  pub held-is : take (r .desk .len) (r .desk .held) ≡ t .held
+  pub at-is : r .at ≡ length (t .said)
+  pub out-is : out′ ≡ sets out 0 (t .said)
+  -- so what was said can be lent: `&out[..at]`
+  pub at-in : r .at ≤ length out′
+  pub at-counts : r .at ≡ length (take (r .at) out′)
+
+-- the contract of `feed` and of `last`: with room for the answers, the terminal t; without, the desk and the buffer as they were
+pub record FedBy (room : Bool) (d : Desk) (t : Terminal) (out : List ℕ) (r : Fed) (out′ : List ℕ) : Type 0 where
+  pub fits-is : r .fits ≡ room
+  pub serves : Serves (terminalIf room t (atDesk d)) out r out′
+  pub kept : room ≡ false → r .desk ≡ d

@@ -1,0 +1,12 @@
+pub mod Ascii
+pub mod Numeral
+pub mod Pattern
+pub mod Line
+pub mod Rendered
+pub mod Placing
+pub mod Answers
+pub mod Desk
+pub mod Lines
+pub mod Listing
+pub mod Program
+pub mod Examples

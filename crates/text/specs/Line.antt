@@ -1,0 +1,79 @@
+-- Document 01, "Terminal text": which line is which call.
+use Prim.Native.Nat.{ℕ}
+use mathlib.Core.Bool.{Bool, true, false}
+use mathlib.Core.List.{List, [], _∷_}
+use lib.Dec.{ltb}
+use lib.ListN.{length, getD, drop}
+use Rattle.book.specs.declared.kinds.Call.{Call}
+use Rattle.text.specs.declared.lines.Line.{Line}
+use Rattle.text.specs.Ascii.{ascii}
+use Rattle.text.specs.Pattern.{figures}
+
+-- "at most 160 bytes before its line feed"
+abbrev pub longestLine : ℕ
+longestLine = 160
+
+-- "decimal numbers of 1 to 12 digits"
+abbrev pub mostDigits : ℕ
+mostDigits = 12
+
+-- a form: its pattern, and the call that its figures make
+pub record Form : Type 0 where
+  pub pattern : List ℕ
+  pub call : List ℕ → Call
+
+abbrev pub at : List ℕ → ℕ → ℕ
+at n i = getD n i 0
+
+abbrev pub file : Form
+file =
+    record {
+      pattern = ascii "(file (maker #) (set #) (year #) (use #) (family #) (fcl #) (cf #) (volume #) (life #))";
+      call = λ n. Call.File (record { maker = at n 0; set = at n 1; year = at n 2; «vehicle_use» = at n 3; family = at n 4; fcl = at n 5; cf = at n 6; volume = at n 7; life = at n 8 });
+    }
+
+abbrev pub close : Form
+close = record { pattern = ascii "(close (year #))"; call = λ n. Call.Close (at n 0) }
+
+abbrev pub trade : Form
+trade =
+    record {
+      pattern = ascii "(trade (from #) (to #) (set #) (vintage #) (mg #))";
+      call = λ n. Call.Trade (record { from = at n 0; to = at n 1; set = at n 2; vintage = at n 3; mg = at n 4 });
+    }
+
+abbrev pub apply : Form
+apply =
+    record {
+      pattern = ascii "(apply (maker #) (set #) (vintage #) (year #) (mg #))";
+      call = λ n. Call.Apply (record { maker = at n 0; set = at n 1; vintage = at n 2; year = at n 3; mg = at n 4 });
+    }
+
+abbrev pub retire : Form
+retire =
+    record {
+      pattern = ascii "(retire (maker #) (set #) (vintage #) (mg #))";
+      call = λ n. Call.Retire (record { maker = at n 0; set = at n 1; vintage = at n 2; mg = at n 3 });
+    }
+
+abbrev pub forms : List Form
+forms = file ∷ close ∷ trade ∷ apply ∷ retire ∷ []
+
+abbrev pub lineIf : Bool → Line → Line → Line
+lineIf true a b = a
+lineIf false a b = b
+
+-- the first of some forms that a text fits
+abbrev pub firstForm : List Form → List ℕ → Line
+firstForm [] s = Line.NoForm
+firstForm (f ∷ fs) s =
+    let r = figures mostDigits (f .pattern) s in
+    lineIf (r .fits) (Line.Form (f .call (r .n))) (firstForm fs s)
+
+-- what a line is read as, for any bytes. A longer line is no form "as a whole"
+unfoldable pub lineOf : List ℕ → Line
+lineOf s = lineIf (ltb longestLine (length s)) Line.NoForm (firstForm forms s)
+
+-- what the text from a place of a line on is read as; the limit of 160 bytes counts from that place
+abbrev pub lineAt : List ℕ → ℕ → Line
+lineAt s place = lineOf (drop place s)

@@ -1,0 +1,48 @@
+-- The line that a call is written as, and what reading has to do with it.
+use Prim.Native.Nat.{ℕ, _^_, _<_, _≤_}
+use mathlib.Core.Path.{_≡_}
+use mathlib.Core.List.{List, [], _∷_}
+use lib.ListN.{length}
+use Rattle.book.specs.declared.kinds.Call.{Call}
+use Rattle.text.specs.declared.lines.Line.{Line}
+use Rattle.text.specs.Pattern.{filled}
+use Rattle.text.specs.Line.{Form, file, close, trade, apply, retire, lineOf, longestLine, mostDigits}
+
+abbrev pub formOf : Call → Form
+formOf (Call.File x) = file
+formOf (Call.Close x) = close
+formOf (Call.Trade x) = trade
+formOf (Call.Apply x) = apply
+formOf (Call.Retire x) = retire
+
+abbrev pub figuresIn : Call → List ℕ
+figuresIn (Call.File x) = x .maker ∷ x .set ∷ x .year ∷ x .«vehicle_use» ∷ x .family ∷ x .fcl ∷ x .cf ∷ x .volume ∷ x .life ∷ []
+figuresIn (Call.Close x) = x ∷ []
+figuresIn (Call.Trade x) = x .from ∷ x .to ∷ x .set ∷ x .vintage ∷ x .mg ∷ []
+figuresIn (Call.Apply x) = x .maker ∷ x .set ∷ x .vintage ∷ x .year ∷ x .mg ∷ []
+figuresIn (Call.Retire x) = x .maker ∷ x .set ∷ x .vintage ∷ x .mg ∷ []
+
+-- a call's text: its form, with its figures in the places
+abbrev pub rendered : Call → List ℕ
+rendered c = filled (formOf c .pattern) (figuresIn c)
+
+-- every figure has at most k digits
+abbrev pub Small : ℕ → List ℕ → Type 0
+Small k [] = Unit {0}
+Small k (n ∷ ns) = (n < 10 ^ k) × Small k ns
+
+-- a line is a call's text, short enough, with figures of at most 12 digits
+pub record IsText (s : List ℕ) (c : Call) : Type 0 where
+  pub text : s ≡ rendered c
+  pub short : length s ≤ longestLine
+  pub small : Small mostDigits (figuresIn c)
+
+-- a line is no call's text
+abbrev pub NoText : List ℕ → Type 0
+NoText s = (c : Call) → IsText s c → ⊥
+
+-- A line is read as a call exactly when it is that call's text in this sense, and as no form when it is no call's text.
+pub record Reads : Type 0 where
+  pub only : (s : List ℕ) (c : Call) → lineOf s ≡ Line.Form c → IsText s c
+  pub each : (s : List ℕ) (c : Call) → IsText s c → lineOf s ≡ Line.Form c
+  pub else-none : (s : List ℕ) → NoText s → lineOf s ≡ Line.NoForm

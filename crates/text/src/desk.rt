@@ -1,0 +1,132 @@
+// The input to its lines: a desk takes any chunk of bytes, and answers each line that ends in it.
+ghost use mathlib.Core.Bool.{true};
+ghost use mathlib.Core.Path.{_≡_};
+ghost use Prim.Native.Nat.{_*_, _/_, _≤_, min};
+ghost use lib.Dec.{leb};
+ghost use lib.ListN.{length};
+ghost use Rattle.text.specs.Answers.{answerRoom};
+ghost use Rattle.text.specs.Desk.{FedBy, Serves, atDesk, ends, mostHeld, openDesk, takesAll};
+use crate::answering::ANSWER_ROOM;
+use crate::answering::answer_into;
+use book::ledger::Book;
+use book::ledger::fresh;
+
+// A line is held up to this many bytes: they are too many already, and stand for any longer line.
+const MOST_HELD: usize = 161;
+
+// The book, and the first len bytes of a line that has not ended yet.
+pub struct Desk {
+    pub book: Book,
+    pub held: [u8; MOST_HELD],
+    pub len: usize,
+}
+
+// Whether out had the room; the desk after it, and how many bytes of answers stand at out's start.
+pub struct Fed {
+    pub fits: bool,
+    pub desk: Desk,
+    pub at: usize,
+}
+
+pub fn open_desk() -> Desk
+    ensures { λ r. ⌜ r ≡ openDesk ⌝ }
+{
+    let book = fresh();
+    Desk {
+        book,
+        held: [0; MOST_HELD],
+        len: 0,
+    }
+}
+
+// The next bytes of the input: each line that ends in them is answered, with the book that the one before left.
+// out has room if it has ANSWER_ROOM bytes for each byte of the chunk; if not, nothing is done.
+pub fn feed(desk: Desk, chunk: &[u8], out: &mut [u8]) -> Fed
+    ensures { λ r. ⌜ FedBy (leb (length (now (chunk .entry))) (length (now (out .entry)) / answerRoom)) desk (takesAll (atDesk desk) (now (chunk .entry))) (now (out .entry)) r (now (out .exit)) ⌝ }
+{
+    if out.len() / ANSWER_ROOM < chunk.len() {
+        return Fed {
+            fits: false,
+            desk,
+            at: 0,
+        };
+    }
+    take_chunk(desk, chunk, out)
+}
+
+// The end of the input: a last line that lacks its line feed is answered. out has room if it has ANSWER_ROOM bytes.
+pub fn last(desk: Desk, out: &mut [u8]) -> Fed
+    ensures { λ r. ⌜ FedBy (leb answerRoom (length (now (out .entry)))) desk (ends (atDesk desk)) (now (out .entry)) r (now (out .exit)) ⌝ }
+{
+    if out.len() < ANSWER_ROOM {
+        return Fed {
+            fits: false,
+            desk,
+            at: 0,
+        };
+    }
+    take_last(desk, out)
+}
+
+// How many bytes a desk holds, whatever its len says.
+fn held_count(len: usize) -> usize
+    ensures { λ r. ⌜ r ≡ min len mostHeld ⌝ }
+{
+    if len < MOST_HELD { len } else { MOST_HELD }
+}
+
+fn take_chunk(desk: Desk, chunk: &[u8], out: &mut [u8]) -> Fed
+    requires { ⌜ answerRoom * length (now chunk) ≤ length (now out) ⌝ }
+    ensures { λ r. ⌜ (r .fits ≡ true) × Serves (takesAll (atDesk desk) (now (chunk .entry))) (now (out .entry)) r (now (out .exit)) ⌝ }
+{
+    let mut book = desk.book;
+    let mut held = desk.held;
+    let mut len = held_count(desk.len);
+    let mut w: usize = 0;
+    let mut i: usize = 0;
+    while i < chunk.len() {
+        let b = chunk[i];
+        i += 1;
+        if b == b'\n' {
+            let s = answer_into(book, &held[..len], out, w);
+            book = s.book;
+            w = s.at;
+            len = 0;
+        } else if len < MOST_HELD {
+            held[len] = b;
+            len += 1;
+        }
+    }
+    Fed {
+        fits: true,
+        desk: Desk { book, held, len },
+        at: w,
+    }
+}
+
+fn take_last(desk: Desk, out: &mut [u8]) -> Fed
+    requires { ⌜ answerRoom ≤ length (now out) ⌝ }
+    ensures { λ r. ⌜ (r .fits ≡ true) × Serves (ends (atDesk desk)) (now (out .entry)) r (now (out .exit)) ⌝ }
+{
+    let book = desk.book;
+    let held = desk.held;
+    let len = held_count(desk.len);
+    if len == 0 {
+        return Fed {
+            fits: true,
+            desk: Desk { book, held, len },
+            at: 0,
+        };
+    }
+    let s = answer_into(book, &held[..len], out, 0);
+    let b = s.book;
+    Fed {
+        fits: true,
+        desk: Desk {
+            book: b,
+            held,
+            len: 0,
+        },
+        at: s.at,
+    }
+}

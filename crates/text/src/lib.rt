@@ -1,0 +1,10 @@
+// The text layer of document 01, "Terminal text": lines to calls, answers to text, the input to its lines, the listing.
+pub mod answering;
+pub mod desk;
+pub mod lines;
+pub mod listing;
+mod numbers;
+mod patterns;
+pub mod placing;
+pub mod reader;
+pub mod session;

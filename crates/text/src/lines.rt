@@ -1,0 +1,139 @@
+// The five forms of document 01: a line to a call.
+ghost use mathlib.Core.Path.{_≡_};
+ghost use Rattle.text.specs.Line.{lineOf, lineAt, file, close, trade, apply, retire};
+use crate::patterns::MOST_PLACES;
+use crate::patterns::fitted;
+use book::kinds::Application;
+use book::kinds::Call;
+use book::kinds::Filing;
+use book::kinds::Retirement;
+use book::kinds::Trade;
+
+// The most bytes of a line before its line feed, and the most digits of a number in it.
+pub const LONGEST_LINE: usize = 160;
+
+pub const MOST_DIGITS: usize = 12;
+
+// What a line is read as.
+pub enum Line {
+    Form(Call),
+    NoForm,
+}
+
+fn file_of(n: [u64; MOST_PLACES]) -> Call
+    ensures { λ r. ⌜ r ≡ file .call n ⌝ }
+{
+    Call::File(Filing {
+        maker: n[0],
+        set: n[1],
+        year: n[2],
+        vehicle_use: n[3],
+        family: n[4],
+        fcl: n[5],
+        cf: n[6],
+        volume: n[7],
+        life: n[8],
+    })
+}
+
+fn close_of(n: [u64; MOST_PLACES]) -> Call
+    ensures { λ r. ⌜ r ≡ close .call n ⌝ }
+{
+    Call::Close(n[0])
+}
+
+fn trade_of(n: [u64; MOST_PLACES]) -> Call
+    ensures { λ r. ⌜ r ≡ trade .call n ⌝ }
+{
+    Call::Trade(Trade {
+        from: n[0],
+        to: n[1],
+        set: n[2],
+        vintage: n[3],
+        mg: n[4],
+    })
+}
+
+fn apply_of(n: [u64; MOST_PLACES]) -> Call
+    ensures { λ r. ⌜ r ≡ apply .call n ⌝ }
+{
+    Call::Apply(Application {
+        maker: n[0],
+        set: n[1],
+        vintage: n[2],
+        year: n[3],
+        mg: n[4],
+    })
+}
+
+fn retire_of(n: [u64; MOST_PLACES]) -> Call
+    ensures { λ r. ⌜ r ≡ retire .call n ⌝ }
+{
+    Call::Retire(Retirement {
+        maker: n[0],
+        set: n[1],
+        vintage: n[2],
+        mg: n[3],
+    })
+}
+
+// What stands from a place of a line on, for any bytes and any place.
+pub fn form_at(line: &[u8], at: usize) -> Line
+    ensures { λ r. ⌜ r ≡ lineAt (now (line .entry)) at ⌝ }
+{
+    if line.len() < at {
+        return Line::NoForm;
+    }
+    form_of(&line[at..])
+}
+
+// The call that a text is, for any bytes (without the line feed).
+fn form_of(line: &[u8]) -> Line
+    ensures { λ r. ⌜ r ≡ lineOf (now (line .entry)) ⌝ }
+{
+    if LONGEST_LINE < line.len() {
+        return Line::NoForm;
+    }
+    let file = fitted(
+        b"(file (maker #) (set #) (year #) (use #) (family #) (fcl #) (cf #) (volume #) (life #))",
+        line,
+        MOST_DIGITS,
+    );
+    if file.fits {
+        let n = file.n;
+        return Line::Form(file_of(n));
+    }
+    let close = fitted(b"(close (year #))", line, MOST_DIGITS);
+    if close.fits {
+        let n = close.n;
+        return Line::Form(close_of(n));
+    }
+    let trade = fitted(
+        b"(trade (from #) (to #) (set #) (vintage #) (mg #))",
+        line,
+        MOST_DIGITS,
+    );
+    if trade.fits {
+        let n = trade.n;
+        return Line::Form(trade_of(n));
+    }
+    let apply = fitted(
+        b"(apply (maker #) (set #) (vintage #) (year #) (mg #))",
+        line,
+        MOST_DIGITS,
+    );
+    if apply.fits {
+        let n = apply.n;
+        return Line::Form(apply_of(n));
+    }
+    let retire = fitted(
+        b"(retire (maker #) (set #) (vintage #) (mg #))",
+        line,
+        MOST_DIGITS,
+    );
+    if retire.fits {
+        let n = retire.n;
+        return Line::Form(retire_of(n));
+    }
+    Line::NoForm
+}

@@ -1,0 +1,63 @@
+use Prim.Native.Nat.{_≤_, _-_}
+use mathlib.Core.Path.{_≡_}
+use lib.ListN.{length}
+use borrow.Author.Needs.{needs}
+use Rattle.book_probe.proofs.words.put_words.Statement.{statement}
+use Rattle.book_probe.proofs.words.put_words.Tie as tie
+
+abbrev Inv-loop : tie.InvT-loop
+Inv-loop out₀ at words i₀ i-end out i = (i ≤ i-end) × ((i-end ≡ length words) × (length out ≡ length out₀))
+
+abbrev μ-loop : tie.MeasureT-loop
+μ-loop out₀ at words i₀ i-end out i = i-end - i
+
+loop-holds : tie.Need-loop-holds Inv-loop μ-loop
+loop-holds c = search needs
+
+mul-put-word : tie.Need-mul-put-word Inv-loop μ-loop
+mul-put-word c = search needs
+
+add-put-word : tie.Need-add-put-word Inv-loop μ-loop
+add-put-word c = search needs
+
+mul-put-word-2 : tie.Need-mul-put-word-2 Inv-loop μ-loop
+mul-put-word-2 c = search needs
+
+shared-slice-read-put-word : tie.Need-shared-slice-read-put-word Inv-loop μ-loop
+shared-slice-read-put-word c = search needs
+
+put-word-requires : tie.Need-put-word-requires Inv-loop μ-loop
+put-word-requires c κs = search needs
+
+add-i : tie.Need-add-i Inv-loop μ-loop
+add-i c = search needs
+
+loop-less : tie.Need-loop-less Inv-loop μ-loop
+loop-less c = search needs
+
+loop-again : tie.Need-loop-again Inv-loop μ-loop
+loop-again c = search needs
+
+same-length : tie.Need-same-length Inv-loop μ-loop
+same-length c = search needs
+
+returns : tie.Need-returns Inv-loop μ-loop
+returns c = search needs
+
+pub put-words-spec : {M : Type 1} → statement M
+put-words-spec =
+    tie.close
+    (tie.spec
+    Inv-loop
+    μ-loop
+    loop-holds
+    mul-put-word
+    add-put-word
+    mul-put-word-2
+    shared-slice-read-put-word
+    put-word-requires
+    add-i
+    loop-less
+    loop-again
+    same-length
+    returns)

@@ -1,0 +1,15 @@
+-- How long a record and its answer are, in bytes.
+use Prim.Native.Nat.{ℕ, _+_, _*_}
+use Rattle.book.specs.Sizes.{cells, allParts, places}
+
+-- the open year, the marks, the parts, the lots and the shortages
+abbrev pub bookBytes : ℕ
+bookBytes = 8 * (1 + cells + allParts + 2 * places)
+
+-- a book, a call's kind and its nine arguments
+abbrev pub recordBytes : ℕ
+recordBytes = bookBytes + 8 * 10
+
+-- soundness, the refusal and two values, and the book
+abbrev pub answerBytes : ℕ
+answerBytes = 8 * 4 + bookBytes

@@ -1,0 +1,181 @@
+// Records: a book and a call in, whether the book is sound, the answer and the book after it out.
+ghost use mathlib.Core.Path.{_≡_};
+ghost use Prim.Native.Nat.{_≤_};
+ghost use lib.ListN.{length};
+ghost use Rattle.book_probe.specs.Sizes.{answerBytes, bookBytes, recordBytes};
+use crate::words::bits;
+use crate::words::put_signed;
+use crate::words::put_word;
+use crate::words::put_words;
+use crate::words::read_signed;
+use crate::words::read_words;
+use crate::words::word;
+use book::answers::Answer;
+use book::answers::refusal_number;
+use book::kinds::Application;
+use book::kinds::Call;
+use book::kinds::Filing;
+use book::kinds::Retirement;
+use book::kinds::Trade;
+use book::ledger::Book;
+use book::posting::post;
+use book::soundness::is_sound;
+
+// Where the book's arrays begin, in bytes, after its open year.
+const MARKS: usize = 8;
+
+const PARTS: usize = MARKS + 8 * 32;
+
+const LOTS: usize = PARTS + 8 * 2048;
+
+const SHORTAGES: usize = LOTS + 8 * 768;
+// A call's kind, after the book; then its nine arguments.
+const KIND: usize = SHORTAGES + 8 * 768;
+
+const ARGUMENTS: usize = KIND + 8;
+
+pub(crate) const RECORD: usize = ARGUMENTS + 8 * 9;
+// Where the book begins in an answer: after its soundness, its refusal and two values.
+const AFTER: usize = 8 * 4;
+
+// An answer in numbers: the refusal's, or 0 and the values.
+pub struct Figures {
+    pub refusal: u64,
+    pub first: u64,
+    pub second: u64,
+}
+
+pub(crate) fn answer_record(input: &[u8], out: &mut [u8])
+    requires { ⌜ (recordBytes ≡ length (now input)) × (answerBytes ≡ length (now out)) ⌝ }
+{
+    let book = book_of(input);
+    let sound = is_sound(book);
+    let posted = post(book, call_of(input));
+    let answer = posted.answer;
+    let after = posted.book;
+    put_answer(out, sound, answer);
+    put_book(&mut out[AFTER..], after);
+}
+
+fn put_answer(out: &mut [u8], sound: bool, answer: Answer)
+    requires { ⌜ 32 ≤ length (now out) ⌝ }
+{
+    let figures = figures_of(answer);
+    put_word(out, 0, one_if(sound));
+    put_word(out, 8, figures.refusal);
+    put_word(out, 16, figures.first);
+    put_word(out, 24, figures.second);
+}
+
+fn one_if(b: bool) -> u64 {
+    if b { 1 } else { 0 }
+}
+
+fn book_of(input: &[u8]) -> Book
+    requires { ⌜ recordBytes ≡ length (now input) ⌝ }
+{
+    let mut marks = [0u64; 32];
+    read_words(input, MARKS, &mut marks);
+    let mut parts = [0i64; 2048];
+    read_signed(input, PARTS, &mut parts);
+    let mut lots = [0u64; 768];
+    read_words(input, LOTS, &mut lots);
+    let mut shortages = [0u64; 768];
+    read_words(input, SHORTAGES, &mut shortages);
+    Book {
+        open_year: word(input, 0),
+        marks,
+        parts,
+        lots,
+        shortages,
+    }
+}
+
+fn put_book(out: &mut [u8], book: Book)
+    requires { ⌜ bookBytes ≤ length (now out) ⌝ }
+{
+    put_word(out, 0, book.open_year);
+    put_words(out, MARKS, &book.marks);
+    put_signed(out, PARTS, &book.parts);
+    put_words(out, LOTS, &book.lots);
+    put_words(out, SHORTAGES, &book.shortages);
+}
+
+// The argument of a place in document 01's order, from 0 on.
+fn argument(input: &[u8], place: usize) -> u64
+    requires { ⌜ (recordBytes ≡ length (now input)) × (place ≤ 8) ⌝ }
+{
+    word(input, ARGUMENTS + 8 * place)
+}
+
+// The call of a record; kinds from 5 on begin again at 0.
+fn call_of(input: &[u8]) -> Call
+    requires { ⌜ recordBytes ≡ length (now input) ⌝ }
+{
+    let kind = word(input, KIND) % 5;
+    match kind {
+        0 => Call::File(filing_of(input)),
+        1 => Call::Close(argument(input, 0)),
+        2 => Call::Trade(Trade {
+            from: argument(input, 0),
+            to: argument(input, 1),
+            set: argument(input, 2),
+            vintage: argument(input, 3),
+            mg: argument(input, 4),
+        }),
+        3 => Call::Apply(Application {
+            maker: argument(input, 0),
+            set: argument(input, 1),
+            vintage: argument(input, 2),
+            year: argument(input, 3),
+            mg: argument(input, 4),
+        }),
+        _ => Call::Retire(Retirement {
+            maker: argument(input, 0),
+            set: argument(input, 1),
+            vintage: argument(input, 2),
+            mg: argument(input, 3),
+        }),
+    }
+}
+
+fn filing_of(input: &[u8]) -> Filing
+    requires { ⌜ recordBytes ≡ length (now input) ⌝ }
+{
+    Filing {
+        maker: argument(input, 0),
+        set: argument(input, 1),
+        year: argument(input, 2),
+        vehicle_use: argument(input, 3),
+        family: argument(input, 4),
+        fcl: argument(input, 5),
+        cf: argument(input, 6),
+        volume: argument(input, 7),
+        life: argument(input, 8),
+    }
+}
+
+fn figures_of(answer: Answer) -> Figures {
+    match answer {
+        Answer::Refused(why) => Figures {
+            refusal: refusal_number(why),
+            first: 0,
+            second: 0,
+        },
+        Answer::Filed(part, count) => Figures {
+            refusal: 0,
+            first: bits(part.0),
+            second: count,
+        },
+        Answer::Closed(short) => Figures {
+            refusal: 0,
+            first: short,
+            second: 0,
+        },
+        Answer::Left(mg) => Figures {
+            refusal: 0,
+            first: mg.0,
+            second: 0,
+        },
+    }
+}

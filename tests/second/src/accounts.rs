@@ -1,0 +1,117 @@
+//! The accounts of a whole list of calls: fed the calls' arguments and, of
+//! each answer, only whether it was a refusal. Nothing is read from a book.
+
+use crate::book::{cell, CELLS, MAKERS, SETS};
+use crate::figuring::{part, rounded, standard, year_index, YEARS};
+use crate::postings::{Call, Filing};
+
+/// One maker, set and year. The paper's numbers have no bound; 128 bits hold
+/// more than 2^63 calls of any 64-bit amount.
+#[derive(Clone, Copy, Debug, Default, PartialEq, Eq)]
+pub struct Account {
+    /// In part units; all else is Mg.
+    pub sum: i128,
+    pub earned: i128,
+    pub shortfall: i128,
+    pub bought: i128,
+    pub sold: i128,
+    pub applied: i128,
+    pub retired: i128,
+    pub covered: i128,
+}
+
+impl Account {
+    pub fn lot(&self) -> i128 {
+        self.earned + self.bought - self.sold - self.applied - self.retired
+    }
+
+    pub fn shortage(&self) -> i128 {
+        self.shortfall - self.covered
+    }
+
+    fn close(&mut self) {
+        let net = rounded(self.sum);
+        if net > 0 {
+            self.earned = net;
+        } else {
+            self.shortfall = -net;
+        }
+    }
+}
+
+/// An accepted call named a place or a figure that no account has.
+#[derive(Clone, Copy, Debug, PartialEq, Eq)]
+pub struct OutOfPlace;
+
+#[derive(Clone, Debug, PartialEq, Eq)]
+pub struct Accounts {
+    by_cell: Vec<[Account; YEARS]>,
+}
+
+impl Default for Accounts {
+    fn default() -> Self {
+        Accounts {
+            by_cell: vec![[Account::default(); YEARS]; CELLS],
+        }
+    }
+}
+
+impl Accounts {
+    /// Takes the next call of the list.
+    pub fn feed(&mut self, call: &Call, accepted: bool) -> Result<(), OutOfPlace> {
+        if !accepted {
+            return Ok(());
+        }
+        match call {
+            Call::File(filing) => self.file(filing)?,
+            Call::Close { year } => self.close(*year)?,
+            Call::Trade(c) => {
+                self.account_mut(c.from, c.set, c.vintage)?.sold += i128::from(c.mg);
+                self.account_mut(c.to, c.set, c.vintage)?.bought += i128::from(c.mg);
+            }
+            Call::Apply(c) => {
+                self.account_mut(c.maker, c.set, c.vintage)?.applied += i128::from(c.mg);
+                self.account_mut(c.maker, c.set, c.year)?.covered += i128::from(c.mg);
+            }
+            Call::Retire(c) => {
+                self.account_mut(c.maker, c.set, c.vintage)?.retired += i128::from(c.mg);
+            }
+        }
+        Ok(())
+    }
+
+    pub fn account(&self, maker: u64, set: u64, year: u64) -> Result<&Account, OutOfPlace> {
+        let (cell, year) = place(maker, set, year)?;
+        Ok(&self.by_cell[cell][year])
+    }
+
+    fn account_mut(&mut self, maker: u64, set: u64, year: u64) -> Result<&mut Account, OutOfPlace> {
+        let (cell, year) = place(maker, set, year)?;
+        Ok(&mut self.by_cell[cell][year])
+    }
+
+    fn file(&mut self, filing: &Filing) -> Result<(), OutOfPlace> {
+        let part = standard(filing.set, filing.usage, filing.year)
+            .and_then(|standard| part(standard, &filing.figures))
+            .ok_or(OutOfPlace)?;
+        self.account_mut(filing.maker, filing.set, filing.year)?.sum += i128::from(part.0);
+        Ok(())
+    }
+
+    fn close(&mut self, year: u64) -> Result<(), OutOfPlace> {
+        let year = year_index(year).ok_or(OutOfPlace)?;
+        for years in &mut self.by_cell {
+            years[year].close();
+        }
+        Ok(())
+    }
+}
+
+/// The place of a maker, set and year in arrays by cell and year.
+pub fn place(maker: u64, set: u64, year: u64) -> Result<(usize, usize), OutOfPlace> {
+    let year = year_index(year).ok_or(OutOfPlace)?;
+    match (usize::try_from(maker), usize::try_from(set)) {
+        (Ok(maker), Ok(set)) if maker < MAKERS && set < SETS => Ok((cell(maker, set), year)),
+        _ => Err(OutOfPlace),
+    }
+}

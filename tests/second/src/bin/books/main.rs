@@ -1,0 +1,299 @@
+//! `books PROGRAM N [SEED]`: holds PROGRAM, the probe of the book layer,
+//! against this library on N random books with a call each, sound or not, and
+//! stops at the first difference.
+//!
+//! PROGRAM reads records to the end of its input and ignores a last one that
+//! is cut short. A record is 3,617 words of a book, then a call's kind and
+//! nine arguments; its answer is the book's soundness, the refusal or 0, two
+//! values, and the book after it. A word is 64 bits, low byte first.
+
+mod calls;
+mod made;
+
+use calls::{call_of, call_on, kind_of};
+use made::Make;
+use second::book::{Book, CELLS, FAMILIES};
+use second::figuring::{FIRST_YEAR, YEARS};
+use second::generate::rng::Rng;
+use second::postings::{post, Answer, Results};
+use std::ffi::{OsStr, OsString};
+use std::io::{BufReader, BufWriter, Read, Write};
+use std::process::{ChildStdin, Command, ExitCode, Stdio};
+use std::sync::mpsc::{sync_channel, Receiver, SyncSender};
+use std::thread;
+use std::time::Instant;
+
+const PROGRESS_EVERY: u64 = 2_000;
+const BOOK_WORDS: usize = 1 + CELLS + CELLS * FAMILIES + 2 * CELLS * YEARS;
+const CALL_WORDS: usize = 10;
+const RECORD_WORDS: usize = BOOK_WORDS + CALL_WORDS;
+const ANSWER_WORDS: usize = 4;
+const BYTES: usize = 8;
+/// Cases on their way to the program.
+const AHEAD: usize = 16;
+
+fn main() -> ExitCode {
+    let arguments: Vec<OsString> = std::env::args_os().skip(1).collect();
+    let Some((program, count, seed)) = asked(&arguments) else {
+        eprintln!("usage: books PROGRAM N [SEED]");
+        return ExitCode::from(2);
+    };
+    match compare(program, count, seed) {
+        Ok(tally) => {
+            eprintln!("{}", tally.by_kind());
+            println!(
+                "{count} books compared, 0 differences ({})",
+                tally.answers()
+            );
+            ExitCode::SUCCESS
+        }
+        Err(difference) => {
+            println!("{difference}");
+            ExitCode::FAILURE
+        }
+    }
+}
+
+fn asked(arguments: &[OsString]) -> Option<(&OsStr, u64, u64)> {
+    let number = |argument: &OsString| argument.to_str()?.parse().ok();
+    match arguments {
+        [program, count] => Some((program, number(count)?, 1)),
+        [program, count, seed] => Some((program, number(count)?, number(seed)?)),
+        _ => None,
+    }
+}
+
+fn compare(program: &OsStr, count: u64, seed: u64) -> Result<Tally, String> {
+    let named = |what: &dyn std::fmt::Display| format!("{}: {what}", program.to_string_lossy());
+    let mut child = Command::new(program)
+        .stdin(Stdio::piped())
+        .stdout(Stdio::piped())
+        .spawn()
+        .map_err(|error| named(&error))?;
+    let stdin = child.stdin.take();
+    let stdout = child.stdout.take().ok_or_else(|| named(&"no output"))?;
+    let mut answers = BufReader::with_capacity(1 << 18, stdout);
+    let tally = thread::scope(|scope| {
+        let (sender, cases) = sync_channel(AHEAD);
+        scope.spawn(move || hand_over(stdin, sender, count, seed));
+        let tally = held(&mut answers, cases, count, seed);
+        if tally.is_err() {
+            // Else the other thread waits for a program that waits for us.
+            let _ = child.kill();
+        }
+        tally
+    });
+    let more = answers.bytes().next().is_some();
+    let status = child.wait().map_err(|error| named(&error))?;
+    let tally = tally?;
+    if tally.books != count {
+        return Err(named(&format!("it took {} of {count} books", tally.books)));
+    }
+    if more {
+        return Err(named(&"it answers more than it was asked"));
+    }
+    if !status.success() {
+        return Err(named(&format!("it ended with {status}")));
+    }
+    Ok(tally)
+}
+
+/// Holds the answers against the cases, until they end or one differs.
+fn held(
+    answers: &mut impl Read,
+    cases: Receiver<Case>,
+    count: u64,
+    seed: u64,
+) -> Result<Tally, String> {
+    let begun = Instant::now();
+    let mut tally = Tally::default();
+    for case in cases {
+        let answer = case
+            .hold(answers)
+            .map_err(|why| format!("seed {seed}, {}: {why}", case.told()))?;
+        tally.count(&case, &answer);
+        if tally.books % PROGRESS_EVERY == 0 {
+            let seconds = begun.elapsed().as_secs_f64();
+            eprintln!(
+                "{} of {count} books, seed {seed}, {seconds:.1} s",
+                tally.books
+            );
+        }
+    }
+    Ok(tally)
+}
+
+/// Writes every record, and at last one that is cut short. A case is sent on
+/// once the program has its record.
+fn hand_over(stdin: Option<ChildStdin>, sender: SyncSender<Case>, count: u64, seed: u64) {
+    let Some(mut stdin) = stdin.map(|stdin| BufWriter::with_capacity(1 << 16, stdin)) else {
+        return;
+    };
+    for number in 0..count {
+        let case = Case::of(seed, number);
+        let handed = stdin.write_all(&case.record()).and_then(|()| stdin.flush());
+        if handed.is_err() || sender.send(case).is_err() {
+            return;
+        }
+    }
+    let last = Case::of(seed, count).record();
+    let cut = Rng::new(seed).index(last.len());
+    let _ = stdin.write_all(&last[..cut]).and_then(|()| stdin.flush());
+}
+
+/// One book and one call, the same again for the same seed and number.
+struct Case {
+    number: u64,
+    make: Make,
+    book: Book,
+    call: [u64; CALL_WORDS],
+}
+
+impl Case {
+    fn of(seed: u64, number: u64) -> Self {
+        let mut rng = Rng::new(Rng::new(seed).draw() ^ number);
+        let make = Make::drawn(&mut rng);
+        let book = make.book(&mut rng);
+        let call = call_on(&book, &mut rng);
+        Case {
+            number,
+            make,
+            book,
+            call,
+        }
+    }
+
+    fn told(&self) -> String {
+        let Case { number, make, .. } = self;
+        let call = call_of(&self.call);
+        format!("record {number}, a book {make:?}, {call:?}")
+    }
+
+    fn record(&self) -> Vec<u8> {
+        let mut words = Vec::with_capacity(RECORD_WORDS);
+        push_book(&mut words, &self.book);
+        words.extend(self.call);
+        words.into_iter().flat_map(u64::to_le_bytes).collect()
+    }
+
+    /// The answer in both, or the first difference in words.
+    fn hold(&self, answers: &mut impl Read) -> Result<Answer, String> {
+        let sound = self.book.is_sound();
+        if self.make.soundness().is_some_and(|meant| meant != sound) {
+            return Err(format!(
+                "the second implementation itself: sound is {sound}"
+            ));
+        }
+        let mut after = self.book.clone();
+        let answer = post(&mut after, &call_of(&self.call));
+        let mut ours = vec![u64::from(sound)];
+        ours.extend(values(&answer));
+        push_book(&mut ours, &after);
+
+        let mut bytes = vec![0; ours.len() * BYTES];
+        answers
+            .read_exact(&mut bytes)
+            .map_err(|error| format!("the program's answer: {error}"))?;
+        let theirs: Vec<u64> = bytes.chunks_exact(BYTES).map(word).collect();
+        match ours.iter().zip(&theirs).position(|(our, their)| our != their) {
+            None => Ok(answer),
+            Some(place) => Err(format!(
+                "\n  program: sound {}, answer {:?}\n  second:  sound {}, answer {:?}\n  word {place}, {}: program {}, second {}",
+                theirs[0],
+                &theirs[1..ANSWER_WORDS],
+                ours[0],
+                &ours[1..ANSWER_WORDS],
+                place_name(place),
+                theirs[place],
+                ours[place]
+            )),
+        }
+    }
+}
+
+fn word(bytes: &[u8]) -> u64 {
+    bytes
+        .iter()
+        .rev()
+        .fold(0, |word, &byte| word << 8 | u64::from(byte))
+}
+
+fn push_book(words: &mut Vec<u64>, book: &Book) {
+    words.push(book.open_year);
+    words.extend(book.marks);
+    words.extend(book.parts.iter().flatten().map(|part| part.0 as u64));
+    words.extend(book.lots.iter().flatten().map(|mg| mg.0));
+    words.extend(book.shortages.iter().flatten().map(|mg| mg.0));
+}
+
+/// The refusal or 0, and the two values.
+fn values(answer: &Answer) -> [u64; 3] {
+    match *answer {
+        Err(refusal) => [u64::from(refusal.number()), 0, 0],
+        Ok(Results::Filed { part, families }) => [0, part.0 as u64, families],
+        Ok(Results::Closed { short }) => [0, short, 0],
+        Ok(Results::Left(mg)) => [0, mg.0, 0],
+    }
+}
+
+/// What stands at a word of an answer.
+fn place_name(place: usize) -> String {
+    let Some(at) = place.checked_sub(ANSWER_WORDS) else {
+        return ["soundness", "refusal", "first value", "second value"][place].into();
+    };
+    let Some(at) = at.checked_sub(1) else {
+        return "open year".into();
+    };
+    let Some(at) = at.checked_sub(CELLS) else {
+        return format!("mark of cell {at}");
+    };
+    let Some(at) = at.checked_sub(CELLS * FAMILIES) else {
+        return format!("part of cell {}, family {}", at / FAMILIES, at % FAMILIES);
+    };
+    let (name, at) = match at.checked_sub(CELLS * YEARS) {
+        None => ("lot", at),
+        Some(at) => ("shortage", at),
+    };
+    let year = FIRST_YEAR + (at % YEARS) as u64;
+    format!("{name} of cell {}, year {year}", at / YEARS)
+}
+
+#[derive(Default)]
+struct Tally {
+    books: u64,
+    sound: u64,
+    accepted: [u64; 5],
+    refused: [u64; 17],
+}
+
+impl Tally {
+    fn count(&mut self, case: &Case, answer: &Answer) {
+        self.books += 1;
+        self.sound += u64::from(case.book.is_sound());
+        match answer {
+            Ok(_) => self.accepted[kind_of(&case.call)] += 1,
+            Err(refusal) => self.refused[usize::from(refusal.number())] += 1,
+        }
+    }
+
+    fn answers(&self) -> String {
+        let accepted: u64 = self.accepted.iter().sum();
+        let refused: u64 = self.refused.iter().sum();
+        let numbers = self.refused.iter().enumerate().skip(2);
+        let numbers: Vec<String> = numbers
+            .map(|(number, n)| format!("{number}: {n}"))
+            .collect();
+        format!(
+            "{accepted} accepted, {refused} refused by number: {}",
+            numbers.join(", ")
+        )
+    }
+
+    fn by_kind(&self) -> String {
+        let [file, close, trade, apply, retire] = self.accepted;
+        let Tally { books, sound, .. } = self;
+        format!(
+            "{sound} of {books} books sound; accepted: file {file}, close {close}, trade {trade}, apply {apply}, retire {retire}"
+        )
+    }
+}

@@ -1,0 +1,186 @@
+//! The audit notices books that do not keep the accounts, and the generated
+//! sessions reach what they are for.
+
+mod common;
+
+use common::*;
+use second::audit::Audit;
+use second::book::Book;
+use second::figuring::{Mg, Part};
+use second::generate::{session, Kind};
+use second::postings::{post, Call};
+use second::text::{parse, Lines};
+use std::collections::BTreeMap;
+use std::convert::Infallible;
+
+fn call(line: &str) -> Call {
+    parse(line.as_bytes()).expect("a form")
+}
+
+const FILE: &str =
+    "(file (maker 0) (set 3) (year 2014) (use 0) (family 0) (fcl 466) (cf 100000) (volume 100) (life 1))";
+const CLOSE: &str = "(close (year 2014))";
+
+/// An audit and a book in which maker 0 holds 101 Mg of set 3.
+fn begun() -> (Audit, Book) {
+    let (mut audit, mut book) = (Audit::default(), Book::fresh());
+    for line in [FILE, CLOSE] {
+        let before = book.clone();
+        post(&mut book, &call(line)).expect("accepted");
+        audit
+            .judge(&call(line), true, &before, &book)
+            .expect("holds");
+    }
+    audit.hold_all(&book).expect("holds");
+    assert_eq!(lot(&book, 0, 3, 2014), 101);
+    (audit, book)
+}
+
+#[test]
+fn a_close_that_moves_nothing_is_noticed() {
+    let (mut audit, mut book) = (Audit::default(), Book::fresh());
+    let before = book.clone();
+    post(&mut book, &call(FILE)).expect("accepted");
+    audit
+        .judge(&call(FILE), true, &before, &book)
+        .expect("holds");
+    let before = book.clone();
+    let mut after = Book::fresh();
+    after.open_year = 2015;
+    assert!(audit.judge(&call(CLOSE), true, &before, &after).is_err());
+}
+
+#[test]
+fn a_trade_that_moves_nothing_is_noticed() {
+    let (mut audit, book) = begun();
+    let trade = call("(trade (from 0) (to 1) (set 3) (vintage 2014) (mg 1))");
+    assert!(audit.judge(&trade, true, &book, &book).is_err());
+}
+
+#[test]
+fn an_application_to_no_shortage_is_noticed() {
+    let (mut audit, book) = begun();
+    let mut after = book.clone();
+    after.lots[3][0] = Mg(100);
+    let apply = call("(apply (maker 0) (set 3) (vintage 2014) (year 2014) (mg 1))");
+    assert!(audit.judge(&apply, true, &book, &after).is_err());
+}
+
+#[test]
+fn a_refusal_that_changes_the_book_is_noticed() {
+    let (mut audit, book) = begun();
+    let mut after = book.clone();
+    after.marks[31] = 1;
+    let close = call("(close (year 2014))");
+    assert!(audit.judge(&close, false, &book, &after).is_err());
+    assert!(audit.judge(&close, false, &book, &book).is_ok());
+}
+
+#[test]
+fn an_unsound_book_after_a_posting_is_noticed() {
+    let (mut audit, book) = begun();
+    let mut after = book.clone();
+    after.parts[31][0] = Part(1);
+    let file = call("(file (maker 7) (set 3) (year 2015) (use 0) (family 0) (fcl 566) (cf 1) (volume 1) (life 1))");
+    assert!(audit.judge(&file, true, &book, &after).is_err());
+}
+
+#[test]
+fn a_lot_moved_elsewhere_is_noticed_at_the_end() {
+    let (audit, mut book) = begun();
+    book.lots[0][0] = Mg(1);
+    assert!(audit.hold_all(&book).is_err());
+}
+
+#[test]
+fn an_accepted_call_outside_the_accounts_is_noticed() {
+    let (mut audit, book) = begun();
+    for line in [
+        "(close (year 2038))",
+        "(trade (from 0) (to 8) (set 3) (vintage 2014) (mg 1))",
+        "(retire (maker 0) (set 3) (vintage 2038) (mg 1))",
+        "(file (maker 0) (set 3) (year 2015) (use 0) (family 0) (fcl 0) (cf 1) (volume 1) (life 1))",
+    ] {
+        assert!(audit.judge(&call(line), true, &book, &book).is_err(), "{line}");
+    }
+}
+
+/// Sums of the cells at each close, reduced to what lies beyond whole Mg,
+/// counted.
+fn remainders_at_closes(input: &[u8]) -> BTreeMap<i64, u64> {
+    let mut book = Book::fresh();
+    let mut seen = BTreeMap::new();
+    let done: Result<(), Infallible> = Lines::default().feed(input, |line| {
+        let Some(call) = parse(line) else {
+            return Ok(());
+        };
+        let parts = book.parts;
+        if post(&mut book, &call).is_ok() && matches!(call, Call::Close { .. }) {
+            for cell in parts {
+                let sum: i64 = cell.iter().map(|part| part.0).sum();
+                *seen.entry(sum % 10_000_000).or_default() += 1;
+            }
+        }
+        Ok(())
+    });
+    let Ok(()) = done;
+    seen
+}
+
+#[test]
+fn years_close_on_halves_and_beside_them() {
+    let mut seen = BTreeMap::new();
+    for seed in 0..5 {
+        let input = session(Kind::Years, seed, Kind::Years.usual_lines());
+        for (remainder, times) in remainders_at_closes(&input) {
+            *seen.entry(remainder).or_insert(0) += times;
+        }
+    }
+    for half in [5_000_000, -5_000_000] {
+        for beside in -1..=1 {
+            assert!(seen.contains_key(&(half + beside)), "{half} {beside}");
+        }
+    }
+}
+
+#[test]
+fn hostile_sessions_meet_every_refusal_a_terminal_can_give() {
+    let mut answers = String::new();
+    for seed in 0..4 {
+        let input = session(Kind::Hostile, seed, Kind::Hostile.usual_lines());
+        answers += &output_in_pieces(&input, 4_096);
+    }
+    for number in (1..=16).filter(|&number| number != UNSOUND) {
+        assert!(answers.contains(&format!("(no {number})\n")), "{number}");
+    }
+    for state in ["live", "expired", "open", "overdue"] {
+        assert!(answers.contains(&format!(" {state} ")), "{state}");
+    }
+}
+
+#[test]
+fn every_kind_keeps_every_claim() {
+    for kind in [Kind::Years, Kind::Hostile, Kind::Mixed, Kind::Bench] {
+        for seed in 10..13 {
+            output_in_pieces(&session(kind, seed, 1_500), 997);
+        }
+    }
+}
+
+#[test]
+fn realistic_years_are_mostly_accepted() {
+    let output = output_in_pieces(&session(Kind::Years, 3, 6_000), 4_096);
+    let accepted = output
+        .lines()
+        .filter(|line| line.starts_with("(ok"))
+        .count();
+    assert!(accepted > 5_000, "{accepted}");
+}
+
+#[test]
+fn sessions_are_the_same_for_the_same_seed() {
+    for kind in [Kind::Years, Kind::Hostile, Kind::Mixed] {
+        assert_eq!(session(kind, 5, 500), session(kind, 5, 500));
+        assert_ne!(session(kind, 5, 500), session(kind, 6, 500));
+    }
+}

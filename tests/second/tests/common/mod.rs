@@ -1,0 +1,113 @@
+//! Short ways to write calls and sessions.
+
+#![allow(dead_code)]
+
+use second::book::{cell, Book};
+use second::figuring::{Mg, Part};
+use second::postings::{post, Answer, Refusal, Results};
+use second::session::Session;
+use second::text::parse;
+
+/// The whole output of an audited session, handed over in pieces.
+pub fn output_in_pieces(input: &[u8], piece: usize) -> String {
+    let mut session = Session::new(Vec::new(), true);
+    for bytes in input.chunks(piece) {
+        session.feed(bytes).expect("every claim holds");
+    }
+    String::from_utf8(session.finish().expect("every claim holds")).expect("plain text")
+}
+
+pub fn output(input: &str) -> String {
+    output_in_pieces(input.as_bytes(), 1 << 16)
+}
+
+/// Posts a call written as terminal text.
+pub fn say(book: &mut Book, line: &str) -> Answer {
+    post(book, &parse(line.as_bytes()).expect("a form"))
+}
+
+pub fn say_all(book: &mut Book, lines: &[&str]) {
+    for line in lines {
+        say(book, line).expect("accepted");
+    }
+}
+
+/// Files for maker 0 in set 3, use 0.
+pub fn file(book: &mut Book, family: u64, fcl: u64, cf: u64, volume: u64) -> Answer {
+    let year = book.open_year;
+    say(
+        book,
+        &format!(
+            "(file (maker 0) (set 3) (year {year}) (use 0) (family {family}) \
+             (fcl {fcl}) (cf {cf}) (volume {volume}) (life 1))"
+        ),
+    )
+}
+
+pub fn close(book: &mut Book) -> Answer {
+    let year = book.open_year;
+    say(book, &format!("(close (year {year}))"))
+}
+
+/// Closes years until `year` is open.
+pub fn close_until(book: &mut Book, year: u64) {
+    while book.open_year < year {
+        close(book).expect("accepted");
+    }
+}
+
+pub fn filed(part: i64, families: u64) -> Answer {
+    Ok(Results::Filed {
+        part: Part(part),
+        families,
+    })
+}
+
+pub fn left(mg: u64) -> Answer {
+    Ok(Results::Left(Mg(mg)))
+}
+
+pub fn closed(short: u64) -> Answer {
+    Ok(Results::Closed { short })
+}
+
+pub fn refused(answer: Answer) -> u8 {
+    answer.expect_err("refused").number()
+}
+
+pub fn lot(book: &Book, maker: usize, set: usize, year: usize) -> u64 {
+    book.lots[cell(maker, set)][year - 2014].0
+}
+
+pub fn shortage(book: &Book, maker: usize, set: usize, year: usize) -> u64 {
+    book.shortages[cell(maker, set)][year - 2014].0
+}
+
+/// A book with the given open year, and lots and shortages as
+/// `(maker, set, year, mg)`.
+pub fn book(
+    open_year: u64,
+    lots: &[(usize, usize, usize, u64)],
+    shortages: &[(usize, usize, usize, u64)],
+) -> Book {
+    let mut book = Book::fresh();
+    book.open_year = open_year;
+    for &(maker, set, year, mg) in lots {
+        book.lots[cell(maker, set)][year - 2014] = Mg(mg);
+    }
+    for &(maker, set, year, mg) in shortages {
+        book.shortages[cell(maker, set)][year - 2014] = Mg(mg);
+    }
+    assert!(book.is_sound());
+    book
+}
+
+/// The refusal of a call that must leave the book as it was.
+pub fn refusal_of(book: &Book, line: &str) -> u8 {
+    let mut after = book.clone();
+    let number = refused(say(&mut after, line));
+    assert!(*book == after, "a refusal changed the book");
+    number
+}
+
+pub const UNSOUND: u8 = Refusal::UnsoundBook as u8;

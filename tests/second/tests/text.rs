@@ -1,0 +1,170 @@
+//! Terminal text: forms, numbers, line lengths, ends, and the listing.
+
+mod common;
+
+use common::*;
+use second::text::parse;
+
+fn is_form(line: &str) -> bool {
+    parse(line.as_bytes()).is_some()
+}
+
+#[test]
+fn numbers_have_1_to_12_digits_and_no_leading_zero() {
+    let close = |number: &str| is_form(&format!("(close (year {number}))"));
+    assert!(["0", "1", "10", "2014", "999999999999"]
+        .into_iter()
+        .all(close));
+    let wrong = [
+        "",
+        "00",
+        "01",
+        "000000000000",
+        "1000000000000",
+        "0999999999999",
+        "-1",
+        "+1",
+        "1.0",
+        "1e3",
+        "0x1",
+        " 1",
+        "1 ",
+        "a",
+        "١",
+    ];
+    assert!(!wrong.into_iter().any(close));
+}
+
+#[test]
+fn near_forms_are_no_forms() {
+    let near = [
+        "",
+        " ",
+        "()",
+        "close",
+        "(close)",
+        "(close )",
+        "(close (year))",
+        "(close (year 1)",
+        "(close (year 1)))",
+        "((close (year 1)))",
+        " (close (year 1))",
+        "(close (year 1)) ",
+        "(close (year 1))\r",
+        "(close (year 1))\0",
+        "(close  (year 1))",
+        "(close (year  1))",
+        "(close\t(year 1))",
+        "(close (year 1) )",
+        "( close (year 1))",
+        "(close(year 1))",
+        "(close (year 1) (year 1))",
+        "(Close (year 1))",
+        "(CLOSE (YEAR 1))",
+        "(closed (year 1))",
+        "(close (years 1))",
+        "(close (vintage 1))",
+        "(fresh)",
+        "(retire (set 0) (maker 0) (vintage 0) (mg 0))",
+        "(retire (maker 0) (set 0) (vintage 0))",
+        "(retire (maker 0)(set 0) (vintage 0) (mg 0))",
+        "(trade (from 0) (to 0) (set 0) (vintage 0) (mg 0)",
+        "(apply (maker 0) (set 0) (year 0) (vintage 0) (mg 0))",
+    ];
+    for line in near {
+        assert!(!is_form(line), "{line}");
+        assert_eq!(output(&format!("{line}\n")), "(no 1)\n", "{line}");
+    }
+    assert!(is_form("(close (year 1))"));
+    assert!(is_form("(retire (maker 0) (set 0) (vintage 0) (mg 0))"));
+}
+
+/// A right filing but for its length; its maker is above 7.
+fn filing_of(length: usize) -> String {
+    let mut digits = [1; 9];
+    let shortest = 78 + digits.len();
+    let mut missing = length - shortest;
+    for count in &mut digits {
+        let more = missing.min(11);
+        *count += more;
+        missing -= more;
+    }
+    let [a, b, c, d, e, f, g, h, i] = digits.map(|count| "9".repeat(count));
+    format!(
+        "(file (maker {a}) (set {b}) (year {c}) (use {d}) (family {e}) (fcl {f}) (cf {g}) \
+         (volume {h}) (life {i}))"
+    )
+}
+
+#[test]
+fn a_line_has_at_most_160_bytes() {
+    for (length, answer) in [
+        (159, "(no 3)\n"),
+        (160, "(no 3)\n"),
+        (161, "(no 1)\n"),
+        (186, "(no 1)\n"),
+    ] {
+        let line = filing_of(length);
+        assert_eq!(line.len(), length);
+        for piece in [1, 100, 160, 161, 1_000] {
+            let fed = output_in_pieces(format!("{line}\n").as_bytes(), piece);
+            assert_eq!(fed, answer, "{length}");
+            assert_eq!(output_in_pieces(line.as_bytes(), piece), answer, "{length}");
+        }
+    }
+}
+
+#[test]
+fn an_overlong_line_is_one_line() {
+    let close = "(close (year 2014))";
+    let long = format!("{}{close}\n{close}\n", " ".repeat(100_000));
+    for piece in [1, 37, 4_096, 1 << 20] {
+        assert_eq!(output_in_pieces(long.as_bytes(), piece), "(no 1)\n(ok 0)\n");
+    }
+}
+
+#[test]
+fn the_end_of_the_input() {
+    assert_eq!(output(""), "");
+    assert_eq!(output("\n"), "(no 1)\n");
+    assert_eq!(output("\n\n"), "(no 1)\n(no 1)\n");
+    assert_eq!(output("(close (year 2014))"), "(ok 0)\n");
+    assert_eq!(output("(close (year 2014))\n"), "(ok 0)\n");
+    assert_eq!(output("(close (year 2014))\n\n"), "(ok 0)\n(no 1)\n");
+    assert_eq!(output("(close (year 2014))\n "), "(ok 0)\n(no 1)\n");
+}
+
+#[test]
+fn any_bytes_are_answered() {
+    let bytes: Vec<u8> = (0..=255).filter(|&byte| byte != b'\n').collect();
+    assert_eq!(output_in_pieces(&bytes, 10), "(no 1)\n");
+    let each: Vec<u8> = bytes.iter().flat_map(|&byte| [byte, b'\n']).collect();
+    assert_eq!(output_in_pieces(&each, 10), "(no 1)\n".repeat(255));
+}
+
+#[test]
+fn cells_are_listed_maker_before_set_lots_before_shortages() {
+    let mut book = book(
+        2021,
+        &[
+            (1, 0, 2016, 1),
+            (0, 3, 2015, 2),
+            (0, 3, 2014, 3),
+            (0, 1, 2020, 4),
+        ],
+        &[(0, 3, 2016, 5), (0, 3, 2017, 6), (0, 1, 2014, 7)],
+    );
+    book.marks[0] = 1;
+    let mut out = Vec::new();
+    second::listing::list(&book, &mut out).expect("written");
+    let expected = "\
+(lot 0 1 2020 live 4)
+(short 0 1 2014 overdue 7)
+(lot 0 3 2014 expired 3)
+(lot 0 3 2015 live 2)
+(short 0 3 2016 overdue 5)
+(short 0 3 2017 open 6)
+(lot 1 0 2016 live 1)
+";
+    assert_eq!(String::from_utf8(out).expect("plain text"), expected);
+}

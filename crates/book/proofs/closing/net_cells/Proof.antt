@@ -26,7 +26,7 @@ net-is :
 net-is c = c .net-of .ensures ∙ ap netOf (c .before .cell-sum .ensures)
 
 sub-i : tie.Need-sub-i Inv-loop μ-loop
-sub-i c = sound-is _ (c .pre .0) .low
+sub-i c = omega (arith, sound-is _ (c .pre .0) .low)
 
 loop-holds : tie.Need-loop-holds Inv-loop μ-loop
 loop-holds c = none-netted _ _

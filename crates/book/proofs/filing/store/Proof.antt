@@ -33,8 +33,14 @@ mul-figure-2 c = search needs
 element-set-from-figure : tie.Need-element-set-from-figure
 element-set-from-figure c = search needs
 
+-- A count of any 64-bit number fits: so a count of another number than the mark would pass here and fail at `returns`.
 cast-t13 : tie.Need-cast-t13
-cast-t13 c = omega (arith, ones-le 64 (c .before .with-bit .result) (c .before .with-bit .ok))
+cast-t13 c =
+    omega (
+      arith,
+      ones-le 64 (c .before .with-bit .result) (c .before .with-bit .ok),
+      ones-le 64 (c .before .before .before .args .family) (c .before .before .before .fits .family .fits),
+    )
 
 returns : tie.Need-returns
 unfolding stored

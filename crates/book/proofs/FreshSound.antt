@@ -48,7 +48,7 @@ empty-sound y l h =
       total = λ s i hs hi.
           omega (
             arith,
-            sum-zero (lotOf (empty y) s i) makers (λ m hm. at-zeros (key m s (firstYear + i)) (omega arith)),
+            sum-zero (lotOf (empty y .lots) s i) makers (λ m hm. at-zeros (key m s (firstYear + i)) (omega arith)),
           );
     })
 

@@ -17,6 +17,7 @@ pub mod NeverUnsound
 pub mod MarkedFigures
 pub mod InPlaceWalk
 pub mod LentWalk
+pub mod DispatchWalk
 pub mod KeptByClosing
 pub mod KeptByFiling
 pub mod KeptByMoving

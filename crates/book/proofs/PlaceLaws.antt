@@ -63,26 +63,26 @@ year-fault b m s i hm hs hi e =
 
 -- the lots of one set and year already pass the most with maker m's
 pub total-fault :
-    (b : Book) (s i m : ℕ)
+    (l : List ℕ) (s i m : ℕ)
     → s < sets → i < years → m < makers
-    → lotsMost < sumBelow m (lotOf b s i) + getD (b .lots) ((m * sets + s) * years + i) 0
-    → totalsSound b ≡ false
+    → lotsMost < sumBelow m (lotOf l s i) + getD l ((m * sets + s) * years + i) 0
+    → totalsSound l ≡ false
 unfolding totalsSound setSound totalSound
-total-fault b s i m hs hi hm h =
-    let f = lotOf b s i in
-    all-fails (setSound b) sets s hs
-    (all-fails (totalSound b s) years i hi
+total-fault l s i m hs hi hm h =
+    let f = lotOf l s i in
+    all-fails (setSound l) sets s hs
+    (all-fails (totalSound l s) years i hi
     (lt-leb (sumBelow makers f) lotsMost
-    (omega (arith, sum-more f m, at-year (b .lots) m s i, sum-rises f makers (m + 1) (omega arith)))))
+    (omega (arith, sum-more f m, at-year l m s i, sum-rises f makers (m + 1) (omega arith)))))
 
 -- ---- a sum of all makers' lots within the most
 pub total-more :
-    (b : Book) (s i m : ℕ)
-    → sumBelow (m + 1) (lotOf b s i) ≡ sumBelow m (lotOf b s i) + getD (b .lots) ((m * sets + s) * years + i) 0
-total-more b s i m = omega (arith, sum-more (lotOf b s i) m, at-year (b .lots) m s i)
+    (l : List ℕ) (s i m : ℕ)
+    → sumBelow (m + 1) (lotOf l s i) ≡ sumBelow m (lotOf l s i) + getD l ((m * sets + s) * years + i) 0
+total-more l s i m = omega (arith, sum-more (lotOf l s i) m, at-year l m s i)
 
 pub total-done :
-    (b : Book) (s i m : ℕ)
-    → m ≤ makers → makers ≤ m → sumBelow m (lotOf b s i) ≤ lotsMost → totalSound b s i ≡ true
+    (l : List ℕ) (s i m : ℕ)
+    → m ≤ makers → makers ≤ m → sumBelow m (lotOf l s i) ≤ lotsMost → totalSound l s i ≡ true
 unfolding totalSound
-total-done b s i m l g h = le-leb (sumBelow makers (lotOf b s i)) lotsMost (omega (arith, sum-done (lotOf b s i) makers m l g))
+total-done l s i m u g h = le-leb (sumBelow makers (lotOf l s i)) lotsMost (omega (arith, sum-done (lotOf l s i) makers m u g))

@@ -27,7 +27,7 @@ pub record Sound (b : Book) : Type 0 where
       (c f : ℕ) → c < cells → f < families → marked (getD (b .marks) c 0) f ≡ false → partAt (b .parts) c f ≡ pos 0
   pub shortage : (k : Key) → In k → at (b .shortages) k ≤ shortageMost
   pub ahead : (k : Key) → In k → b .«open_year» ≤ k .year → (at (b .lots) k ≡ 0) × (at (b .shortages) k ≡ 0)
-  pub total : (s i : ℕ) → s < sets → i < years → sumBelow makers (lotOf b s i) ≤ lotsMost
+  pub total : (s i : ℕ) → s < sets → i < years → sumBelow makers (lotOf (b .lots) s i) ≤ lotsMost
 
 or-false : (a b : Bool) → (a || b) ≡ true → a ≡ false → b ≡ true
 or-false true b e f = absurd (let z : _≡_ {A = ℕ} 0 1 = cc in omega arith)
@@ -50,11 +50,11 @@ module _ (b : Book) (e : sound b ≡ true) where
 
   cells-hold : cellsSound b ≡ true
   unfolding sound
-  cells-hold = both (cellsSound b) (totalsSound b) (both (yearInRange (b .«open_year»)) _ e .1) .0
+  cells-hold = both (cellsSound b) (totalsSound (b .lots)) (both (yearInRange (b .«open_year»)) _ e .1) .0
 
-  totals-hold : totalsSound b ≡ true
+  totals-hold : totalsSound (b .lots) ≡ true
   unfolding sound
-  totals-hold = both (cellsSound b) (totalsSound b) (both (yearInRange (b .«open_year»)) _ e .1) .1
+  totals-hold = both (cellsSound b) (totalsSound (b .lots)) (both (yearInRange (b .«open_year»)) _ e .1) .1
 
   cell-holds : (m s : ℕ) → m < makers → s < sets → cellSound b m s ≡ true
   unfolding cellsSound makerSound
@@ -90,13 +90,13 @@ module _ (b : Book) (e : sound b ≡ true) where
         ahead = λ k i h.
             let w = both _ _ (or-false (ltb (k .year) (b .«open_year»)) _ (both (leb (at (b .shortages) k) shortageMost) _ (year-holds k i) .1) (le-ltb (k .year) (b .«open_year») h)) in
             (eqb-true _ 0 (w .0), eqb-true _ 0 (w .1));
-        total = λ s i hs hi. leb-true _ lotsMost (all-at (totalSound b s) years i hi (all-at (setSound b) sets s hs totals-hold));
+        total = λ s i hs hi. leb-true _ lotsMost (all-at (totalSound (b .lots) s) years i hi (all-at (setSound (b .lots)) sets s hs totals-hold));
       }
 
 -- a lot of a sound book
 pub sound-lot : (b : Book) → Sound b → (k : Key) → In k → at (b .lots) k ≤ lotsMost
 sound-lot b s k i =
-    let h = sum-at (lotOf b (k .kind) (k .year - firstYear)) makers (k .maker) (i .maker) in
+    let h = sum-at (lotOf (b .lots) (k .kind) (k .year - firstYear)) makers (k .maker) (i .maker) in
     let t = s .total (k .kind) (k .year - firstYear) (i .kind) (omega arith) in
     let e : at (b .lots) (key (k .maker) (k .kind) (firstYear + (k .year - firstYear))) ≡ at (b .lots) k = ap (at (b .lots)) (year-of k i) in
     omega arith
@@ -133,5 +133,5 @@ module _ (b : Book) (s : Sound b) where
       (all-of (makerSound b) makers (λ m hm. all-of (cellSound b m) sets (λ k hk.
       and-intro (all-of (familySound b (cell m k)) families (λ f hf. family-sound (cell m k) f (omega arith) hf))
       (all-of (yearSound b m k) years (λ i hi. year-sound m k i hm hk hi)))))
-      (all-of (setSound b) sets (λ k hk. all-of (totalSound b k) years (λ i hi.
-      le-leb (sumBelow makers (lotOf b k i)) lotsMost (s .total k i hk hi)))))
+      (all-of (setSound (b .lots)) sets (λ k hk. all-of (totalSound (b .lots) k) years (λ i hi.
+      le-leb (sumBelow makers (lotOf (b .lots) k i)) lotsMost (s .total k i hk hi)))))

@@ -11,6 +11,11 @@ use lib.IntN.{ℤ, pos}
 use Rattle.figuring.specs.Years.{firstYear, lastYear}
 use Rattle.book.specs.Sizes.{makers, sets, families, years}
 use Rattle.book.specs.Below.{sumBelowℤ}
+use Rattle.book.specs.declared.ledger.Book.{Book}
+
+-- the book of an open year and its four arrays: of one whose arrays are lent
+abbrev pub bookOf : ℕ → List ℕ → List ℤ → List ℕ → List ℕ → Book
+bookOf y m p l s = record { «open_year» = y; marks = m; parts = p; lots = l; shortages = s }
 
 -- a maker, a set (the field `kind`, since `set` is the store into a list) and a year
 pub record Key : Type 0 where

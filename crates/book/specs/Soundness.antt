@@ -1,6 +1,7 @@
 -- Document 01, "Sound means": decided for any book whatever.
 use Prim.Native.Nat.{ℕ, _+_}
 use mathlib.Core.Bool.{Bool, _&&_, _||_}
+use mathlib.Core.List.{List}
 use lib.Dec.{ltb, leb, eqb}
 use lib.IntN.{ℤ, natAbs}
 use lib.ListN.{getD}
@@ -40,21 +41,21 @@ unfoldable pub cellsSound : Book → Bool
 cellsSound b = allBelow makers (makerSound b)
 
 -- "for each set and vintage the lots of all makers together at most 2 × 10^11"
-abbrev pub lotOf : Book → ℕ → ℕ → ℕ → ℕ
-lotOf b s i m = at (b .lots) (key m s (firstYear + i))
+abbrev pub lotOf : List ℕ → ℕ → ℕ → ℕ → ℕ
+lotOf l s i m = at l (key m s (firstYear + i))
 
-unfoldable pub totalSound : Book → ℕ → ℕ → Bool
-totalSound b s i = leb (sumBelow makers (lotOf b s i)) lotsMost
+unfoldable pub totalSound : List ℕ → ℕ → ℕ → Bool
+totalSound l s i = leb (sumBelow makers (lotOf l s i)) lotsMost
 
-unfoldable pub setSound : Book → ℕ → Bool
-setSound b s = allBelow years (totalSound b s)
+unfoldable pub setSound : List ℕ → ℕ → Bool
+setSound l s = allBelow years (totalSound l s)
 
-unfoldable pub totalsSound : Book → Bool
-totalsSound b = allBelow sets (setSound b)
+unfoldable pub totalsSound : List ℕ → Bool
+totalsSound l = allBelow sets (setSound l)
 
 -- "open year in range"
 unfoldable pub yearInRange : ℕ → Bool
 yearInRange y = leb firstYear y && leb y allClosed
 
 unfoldable pub sound : Book → Bool
-sound b = yearInRange (b .«open_year») && (cellsSound b && totalsSound b)
+sound b = yearInRange (b .«open_year») && (cellsSound b && totalsSound (b .lots))

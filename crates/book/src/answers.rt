@@ -4,7 +4,6 @@ use figuring::units::Mg;
 use figuring::units::Part;
 ghost use mathlib.Core.Path.{_≡_};
 ghost use Rattle.book.specs.Refusals.{numberOf};
-ghost use Rattle.book.specs.Rules.{refusedWith};
 
 // One variant for each number of the refusal list, in its order.
 pub enum Refusal {
@@ -69,15 +68,5 @@ pub fn refusal_number(r: Refusal) -> u64
         Refusal::NoOpenShortage => 14,
         Refusal::AboveLot => 15,
         Refusal::AboveShortage => 16,
-    }
-}
-
-// A refusal: the very book that came in.
-pub(crate) fn refused(book: Book, why: Refusal) -> Posted
-    ensures { λ r. ⌜ r ≡ refusedWith book why ⌝ }
-{
-    Posted {
-        answer: Answer::Refused(why),
-        book,
     }
 }

@@ -1,5 +1,6 @@
 // Apply: lowers a lot, and a shortage of the same maker and set by as much.
 ghost use mathlib.Core.Path.{_≡_};
+ghost use Rattle.book.specs.Ledger.{bookOf};
 ghost use Rattle.book.specs.Refusals.{firstRefusal};
 ghost use Rattle.book.specs.Rules.{posted, applyTable};
 ghost use Rattle.book.specs.declared.kinds.Call.{Call};
@@ -7,7 +8,6 @@ use crate::answers::Answer;
 use crate::answers::Posted;
 use crate::answers::Refusal;
 use crate::answers::Verdict;
-use crate::answers::refused;
 use crate::kinds::Application;
 use crate::ledger::Book;
 use crate::ledger::MAKERS;
@@ -16,33 +16,50 @@ use crate::ledger::figure_at;
 use crate::ledger::place_of;
 use crate::life::is_live;
 use crate::life::is_open;
-use crate::soundness::is_sound;
+use crate::soundness::arrays_sound;
 use figuring::units::Mg;
 
 pub fn apply(book: Book, p: Application) -> Posted
     ensures { λ r. ⌜ r ≡ posted book (Call.Apply p) ⌝ }
 {
-    let verdict = apply_verdict(book, p);
-    if let Verdict::Refuse(why) = verdict {
-        return refused(book, why);
-    }
-    let pays = place_of(p.maker, p.set, p.vintage) as usize;
-    let gets = place_of(p.maker, p.set, p.year) as usize;
-    let left = book.lots[pays] - p.mg;
-    let open = book.shortages[gets] - p.mg;
     let mut after = book;
-    after.lots[pays] = left;
-    after.shortages[gets] = open;
+    let verdict = apply_verdict(
+        after.open_year,
+        &after.marks,
+        &after.parts,
+        &after.lots,
+        &after.shortages,
+        p,
+    );
+    let answer = match verdict {
+        Verdict::Refuse(why) => Answer::Refused(why),
+        Verdict::Accepted => {
+            let pays = place_of(p.maker, p.set, p.vintage) as usize;
+            let gets = place_of(p.maker, p.set, p.year) as usize;
+            let left = after.lots[pays] - p.mg;
+            let open = after.shortages[gets] - p.mg;
+            after.lots[pays] = left;
+            after.shortages[gets] = open;
+            Answer::Left(Mg(left))
+        }
+    };
     Posted {
-        answer: Answer::Left(Mg(left)),
+        answer: answer,
         book: after,
     }
 }
 
-fn apply_verdict(book: Book, p: Application) -> Verdict
-    ensures { λ r. ⌜ r ≡ firstRefusal (applyTable book p) ⌝ }
+fn apply_verdict<'a>(
+    open_year: u64,
+    marks: &'a [u64; 32],
+    parts: &'a [i64; 2048],
+    lots: &'a [u64; 768],
+    shortages: &'a [u64; 768],
+    p: Application,
+) -> Verdict
+    ensures { λ r. ⌜ r ≡ firstRefusal (applyTable (bookOf «open_year» (now (marks .entry)) (now (parts .entry)) (now (lots .entry)) (now (shortages .entry))) p) ⌝ }
 {
-    if !is_sound(book) {
+    if !arrays_sound(open_year, marks, parts, lots, shortages) {
         return Verdict::Refuse(Refusal::UnsoundBook);
     }
     if p.maker >= MAKERS {
@@ -51,20 +68,20 @@ fn apply_verdict(book: Book, p: Application) -> Verdict
     if p.set >= SETS {
         return Verdict::Refuse(Refusal::UnknownSet);
     }
-    if !is_live(book.open_year, p.vintage) {
+    if !is_live(open_year, p.vintage) {
         return Verdict::Refuse(Refusal::VintageNotLive);
     }
     if p.mg == 0 {
         return Verdict::Refuse(Refusal::ZeroAmount);
     }
-    if !is_open(book.open_year, p.year) {
+    if !is_open(open_year, p.year) {
         return Verdict::Refuse(Refusal::NoOpenShortage);
     }
-    let shortage = figure_at(&book.shortages, p.maker, p.set, p.year);
+    let shortage = figure_at(shortages, p.maker, p.set, p.year);
     if shortage == 0 {
         return Verdict::Refuse(Refusal::NoOpenShortage);
     }
-    if p.mg > figure_at(&book.lots, p.maker, p.set, p.vintage) {
+    if p.mg > figure_at(lots, p.maker, p.set, p.vintage) {
         return Verdict::Refuse(Refusal::AboveLot);
     }
     if p.mg > shortage {

@@ -8,7 +8,7 @@ ghost use Rattle.figuring.specs.Years.{firstYear, lastYear};
 ghost use Rattle.figuring.specs.Parts.{partMost};
 ghost use Rattle.book.specs.Sizes.{cells, families};
 ghost use Rattle.book.specs.Below.{countBelow, oneIf};
-ghost use Rattle.book.specs.Ledger.{partAt, cellSum};
+ghost use Rattle.book.specs.Ledger.{bookOf, partAt, cellSum};
 ghost use Rattle.book.specs.Soundness.{sound};
 ghost use Rattle.book.specs.Refusals.{firstRefusal};
 ghost use Rattle.book.specs.Postings.{netted, earnedBy, shortBy};
@@ -18,13 +18,12 @@ use crate::answers::Answer;
 use crate::answers::Posted;
 use crate::answers::Refusal;
 use crate::answers::Verdict;
-use crate::answers::refused;
 use crate::ledger::ALL_CLOSED;
 use crate::ledger::Book;
 use crate::ledger::CELLS;
 use crate::ledger::FAMILIES;
 use crate::ledger::YEARS;
-use crate::soundness::is_sound;
+use crate::soundness::arrays_sound;
 use figuring::netting::earned_mg;
 use figuring::netting::net_of;
 use figuring::netting::shortfall_mg;
@@ -34,35 +33,53 @@ use figuring::years::FIRST_YEAR;
 pub fn close(book: Book, year: u64) -> Posted
     ensures { λ r. ⌜ r ≡ posted book (Call.Close year) ⌝ }
 {
-    let verdict = close_verdict(book, year);
-    if let Verdict::Refuse(why) = verdict {
-        return refused(book, why);
-    }
-    let nets = net_cells(book);
-    let lots = nets.lots;
-    let shortages = nets.shortages;
+    let mut after = book;
+    let answer = match close_verdict(
+        after.open_year,
+        &after.marks,
+        &after.parts,
+        &after.lots,
+        &after.shortages,
+        year,
+    ) {
+        Verdict::Refuse(why) => Answer::Refused(why),
+        Verdict::Accepted => {
+            let nets = net_cells(after);
+            let lots = nets.lots;
+            let shortages = nets.shortages;
+            after = Book {
+                open_year: after.open_year + 1,
+                marks: [0; 32],
+                parts: [0; 2048],
+                lots,
+                shortages,
+            };
+            Answer::Closed(nets.short)
+        }
+    };
     Posted {
-        answer: Answer::Closed(nets.short),
-        book: Book {
-            open_year: book.open_year + 1,
-            marks: [0; 32],
-            parts: [0; 2048],
-            lots,
-            shortages,
-        },
+        answer,
+        book: after,
     }
 }
 
-fn close_verdict(book: Book, year: u64) -> Verdict
-    ensures { λ r. ⌜ r ≡ firstRefusal (closeTable book year) ⌝ }
+fn close_verdict<'a>(
+    open_year: u64,
+    marks: &'a [u64; 32],
+    parts: &'a [i64; 2048],
+    lots: &'a [u64; 768],
+    shortages: &'a [u64; 768],
+    year: u64,
+) -> Verdict
+    ensures { λ r. ⌜ r ≡ firstRefusal (closeTable (bookOf «open_year» (now (marks .entry)) (now (parts .entry)) (now (lots .entry)) (now (shortages .entry))) year) ⌝ }
 {
-    if !is_sound(book) {
+    if !arrays_sound(open_year, marks, parts, lots, shortages) {
         return Verdict::Refuse(Refusal::UnsoundBook);
     }
-    if year != book.open_year {
+    if year != open_year {
         return Verdict::Refuse(Refusal::YearNotOpen);
     }
-    if book.open_year == ALL_CLOSED {
+    if open_year == ALL_CLOSED {
         return Verdict::Refuse(Refusal::YearNotOpen);
     }
     Verdict::Accepted

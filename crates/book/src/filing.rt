@@ -1,16 +1,13 @@
 // File: sets a family's mark and part in the open year.
 ghost use mathlib.Core.Path.{_≡_};
+ghost use Rattle.book.specs.Ledger.{bookOf};
 ghost use Rattle.book.specs.Refusals.{firstRefusal};
 ghost use Rattle.book.specs.Rules.{posted, fileTable};
-ghost use Prim.Native.Nat.{ℕ, _<_};
-ghost use Rattle.book.specs.Sizes.{cells, families};
-ghost use Rattle.book.specs.Postings.{stored};
 ghost use Rattle.book.specs.declared.kinds.Call.{Call};
 use crate::answers::Answer;
 use crate::answers::Posted;
 use crate::answers::Refusal;
 use crate::answers::Verdict;
-use crate::answers::refused;
 use crate::kinds::Filing;
 use crate::ledger::ALL_CLOSED;
 use crate::ledger::Book;
@@ -19,33 +16,62 @@ use crate::ledger::MAKERS;
 use crate::ledger::SETS;
 use crate::ledger::is_marked;
 use crate::ledger::with_bit;
-use crate::soundness::is_sound;
+use crate::soundness::arrays_sound;
 use figuring::parts::FamilyPart;
 use figuring::parts::family_part;
 use figuring::parts::within_limits;
 use figuring::standards::grams;
 use figuring::standards::is_absent;
 use figuring::standards::standard_for;
-use figuring::units::Part;
 
 pub fn file(book: Book, f: Filing) -> Posted
     ensures { λ r. ⌜ r ≡ posted book (Call.File f) ⌝ }
 {
-    let verdict = file_verdict(book, f);
-    if let Verdict::Refuse(why) = verdict {
-        return refused(book, why);
-    }
-    let standard = grams(standard_for(f.set, f.vehicle_use, f.year));
-    match family_part(standard, f.fcl, f.cf, f.volume, f.life) {
-        FamilyPart::OutOfLimits => refused(book, Refusal::OutOfLimits),
-        FamilyPart::Figured(part) => store(book, f.maker * SETS + f.set, f.family, part),
+    // The one copy of the book, with one exit: copies of its 29 KB are what a posting's time goes into.
+    let mut after = book;
+    let answer = match file_verdict(
+        after.open_year,
+        &after.marks,
+        &after.parts,
+        &after.lots,
+        &after.shortages,
+        f,
+    ) {
+        Verdict::Refuse(why) => Answer::Refused(why),
+        Verdict::Accepted => {
+            let standard = grams(standard_for(f.set, f.vehicle_use, f.year));
+            match family_part(standard, f.fcl, f.cf, f.volume, f.life) {
+                FamilyPart::OutOfLimits => Answer::Refused(Refusal::OutOfLimits),
+                // The count is the number of ones in the mark.
+                FamilyPart::Figured(part) => {
+                    let cell = f.maker * SETS + f.set;
+                    let family = f.family;
+                    let mark = with_bit(after.marks[cell as usize], family);
+                    let figure = part.0;
+                    after.marks[cell as usize] = mark;
+                    after.parts[(cell * FAMILIES + family) as usize] = figure;
+                    Answer::Filed(part, u64::count_ones(mark) as u64)
+                }
+            }
+        }
+    };
+    Posted {
+        answer,
+        book: after,
     }
 }
 
-fn file_verdict(book: Book, f: Filing) -> Verdict
-    ensures { λ r. ⌜ r ≡ firstRefusal (fileTable book f) ⌝ }
+fn file_verdict<'a>(
+    open_year: u64,
+    marks: &'a [u64; 32],
+    parts: &'a [i64; 2048],
+    lots: &'a [u64; 768],
+    shortages: &'a [u64; 768],
+    f: Filing,
+) -> Verdict
+    ensures { λ r. ⌜ r ≡ firstRefusal (fileTable (bookOf «open_year» (now (marks .entry)) (now (parts .entry)) (now (lots .entry)) (now (shortages .entry))) f) ⌝ }
 {
-    if !is_sound(book) {
+    if !arrays_sound(open_year, marks, parts, lots, shortages) {
         return Verdict::Refuse(Refusal::UnsoundBook);
     }
     if f.maker >= MAKERS {
@@ -54,10 +80,10 @@ fn file_verdict(book: Book, f: Filing) -> Verdict
     if f.set >= SETS {
         return Verdict::Refuse(Refusal::UnknownSet);
     }
-    if f.year != book.open_year {
+    if f.year != open_year {
         return Verdict::Refuse(Refusal::YearNotOpen);
     }
-    if book.open_year == ALL_CLOSED {
+    if open_year == ALL_CLOSED {
         return Verdict::Refuse(Refusal::YearNotOpen);
     }
     if is_absent(standard_for(f.set, f.vehicle_use, f.year)) {
@@ -70,24 +96,8 @@ fn file_verdict(book: Book, f: Filing) -> Verdict
         return Verdict::Refuse(Refusal::OutOfLimits);
     }
     let cell = f.maker * SETS + f.set;
-    if is_marked(book.marks[cell as usize], f.family) {
+    if is_marked(marks[cell as usize], f.family) {
         return Verdict::Refuse(Refusal::AlreadyFiled);
     }
     Verdict::Accepted
-}
-
-// The part stored in its cell, with its family's bit set; the count is the number of ones in the mark.
-fn store(book: Book, cell: u64, family: u64, part: Part) -> Posted
-    requires { ⌜ (cell < cells) × (family < families) ⌝ }
-    ensures { λ r. ⌜ r ≡ stored book cell family (part .0) ⌝ }
-{
-    let mark = with_bit(book.marks[cell as usize], family);
-    let figure = part.0;
-    let mut after = book;
-    after.marks[cell as usize] = mark;
-    after.parts[(cell * FAMILIES + family) as usize] = figure;
-    Posted {
-        answer: Answer::Filed(part, u64::count_ones(mark) as u64),
-        book: after,
-    }
 }

@@ -1,15 +1,14 @@
 // "The terminal owns one book and posts to it in place": thin functions that take the book by reference, call the proved
-// by-value step and store the result back. A refusal leaves the book exactly as it was. Above each stands a function with
-// plain parameters, which lends a book of its own and gives it back, so that its callers need no proof by hand.
+// by-value step and store the result back. A refusal leaves the book exactly as it was.
 ghost use mathlib.Core.Path.{_≡_};
 ghost use Rattle.book.specs.Rules.{posted};
 ghost use Rattle.book.specs.declared.kinds.Call.{Call};
 use crate::answers::Answer;
-use crate::answers::Posted;
 use crate::applying::apply;
 use crate::closing::close;
 use crate::filing::file;
 use crate::kinds::Application;
+use crate::kinds::Call;
 use crate::kinds::Filing;
 use crate::kinds::Retirement;
 use crate::kinds::Trade;
@@ -57,57 +56,15 @@ pub fn retire_in(book: &mut Book, p: Retirement) -> Answer
     done.answer
 }
 
-pub fn file_lent(book: Book, f: Filing) -> Posted
-    ensures { λ r. ⌜ r ≡ posted book (Call.File f) ⌝ }
+// Any call, posted in place.
+pub fn post_in(book: &mut Book, call: Call) -> Answer
+    ensures { λ a. ⌜ (a ≡ posted (now (book .entry)) call .answer) × (now (book .exit) ≡ posted (now (book .entry)) call .book) ⌝ }
 {
-    let mut own = book;
-    let answer = file_in(&mut own, f);
-    Posted {
-        answer: answer,
-        book: own,
-    }
-}
-
-pub fn close_lent(book: Book, year: u64) -> Posted
-    ensures { λ r. ⌜ r ≡ posted book (Call.Close year) ⌝ }
-{
-    let mut own = book;
-    let answer = close_in(&mut own, year);
-    Posted {
-        answer: answer,
-        book: own,
-    }
-}
-
-pub fn trade_lent(book: Book, t: Trade) -> Posted
-    ensures { λ r. ⌜ r ≡ posted book (Call.Trade t) ⌝ }
-{
-    let mut own = book;
-    let answer = trade_in(&mut own, t);
-    Posted {
-        answer: answer,
-        book: own,
-    }
-}
-
-pub fn apply_lent(book: Book, p: Application) -> Posted
-    ensures { λ r. ⌜ r ≡ posted book (Call.Apply p) ⌝ }
-{
-    let mut own = book;
-    let answer = apply_in(&mut own, p);
-    Posted {
-        answer: answer,
-        book: own,
-    }
-}
-
-pub fn retire_lent(book: Book, p: Retirement) -> Posted
-    ensures { λ r. ⌜ r ≡ posted book (Call.Retire p) ⌝ }
-{
-    let mut own = book;
-    let answer = retire_in(&mut own, p);
-    Posted {
-        answer: answer,
-        book: own,
+    match call {
+        Call::File(f) => file_in(book, f),
+        Call::Close(year) => close_in(book, year),
+        Call::Trade(t) => trade_in(book, t),
+        Call::Apply(p) => apply_in(book, p),
+        Call::Retire(p) => retire_in(book, p),
     }
 }

@@ -1,23 +1,18 @@
-// Any call, posted in place to a book of its own.
+// Any call, posted in place to a book of its own: plain parameters, so that its callers need no proof by hand.
 ghost use mathlib.Core.Path.{_≡_};
 ghost use Rattle.book.specs.Rules.{posted};
 use crate::answers::Posted;
-use crate::in_place::apply_lent;
-use crate::in_place::close_lent;
-use crate::in_place::file_lent;
-use crate::in_place::retire_lent;
-use crate::in_place::trade_lent;
+use crate::in_place::post_in;
 use crate::kinds::Call;
 use crate::ledger::Book;
 
 pub fn post(book: Book, call: Call) -> Posted
     ensures { λ r. ⌜ r ≡ posted book call ⌝ }
 {
-    match call {
-        Call::File(f) => file_lent(book, f),
-        Call::Close(year) => close_lent(book, year),
-        Call::Trade(t) => trade_lent(book, t),
-        Call::Apply(p) => apply_lent(book, p),
-        Call::Retire(p) => retire_lent(book, p),
+    let mut own = book;
+    let answer = post_in(&mut own, call);
+    Posted {
+        answer: answer,
+        book: own,
     }
 }

@@ -1,5 +1,6 @@
 // Retire: lowers a lot.
 ghost use mathlib.Core.Path.{_≡_};
+ghost use Rattle.book.specs.Ledger.{bookOf};
 ghost use Rattle.book.specs.Refusals.{firstRefusal};
 ghost use Rattle.book.specs.Rules.{posted, retireTable};
 ghost use Rattle.book.specs.declared.kinds.Call.{Call};
@@ -7,7 +8,6 @@ use crate::answers::Answer;
 use crate::answers::Posted;
 use crate::answers::Refusal;
 use crate::answers::Verdict;
-use crate::answers::refused;
 use crate::kinds::Retirement;
 use crate::ledger::Book;
 use crate::ledger::MAKERS;
@@ -16,30 +16,47 @@ use crate::ledger::figure_at;
 use crate::ledger::place_of;
 use crate::life::has_shortage;
 use crate::life::is_live;
-use crate::soundness::is_sound;
+use crate::soundness::arrays_sound;
 use figuring::units::Mg;
 
 pub fn retire(book: Book, p: Retirement) -> Posted
     ensures { λ r. ⌜ r ≡ posted book (Call.Retire p) ⌝ }
 {
-    let verdict = retire_verdict(book, p);
-    if let Verdict::Refuse(why) = verdict {
-        return refused(book, why);
-    }
-    let pays = place_of(p.maker, p.set, p.vintage) as usize;
-    let left = book.lots[pays] - p.mg;
     let mut after = book;
-    after.lots[pays] = left;
+    let verdict = retire_verdict(
+        after.open_year,
+        &after.marks,
+        &after.parts,
+        &after.lots,
+        &after.shortages,
+        p,
+    );
+    let answer = match verdict {
+        Verdict::Refuse(why) => Answer::Refused(why),
+        Verdict::Accepted => {
+            let pays = place_of(p.maker, p.set, p.vintage) as usize;
+            let left = after.lots[pays] - p.mg;
+            after.lots[pays] = left;
+            Answer::Left(Mg(left))
+        }
+    };
     Posted {
-        answer: Answer::Left(Mg(left)),
+        answer: answer,
         book: after,
     }
 }
 
-fn retire_verdict(book: Book, p: Retirement) -> Verdict
-    ensures { λ r. ⌜ r ≡ firstRefusal (retireTable book p) ⌝ }
+fn retire_verdict<'a>(
+    open_year: u64,
+    marks: &'a [u64; 32],
+    parts: &'a [i64; 2048],
+    lots: &'a [u64; 768],
+    shortages: &'a [u64; 768],
+    p: Retirement,
+) -> Verdict
+    ensures { λ r. ⌜ r ≡ firstRefusal (retireTable (bookOf «open_year» (now (marks .entry)) (now (parts .entry)) (now (lots .entry)) (now (shortages .entry))) p) ⌝ }
 {
-    if !is_sound(book) {
+    if !arrays_sound(open_year, marks, parts, lots, shortages) {
         return Verdict::Refuse(Refusal::UnsoundBook);
     }
     if p.maker >= MAKERS {
@@ -48,16 +65,16 @@ fn retire_verdict(book: Book, p: Retirement) -> Verdict
     if p.set >= SETS {
         return Verdict::Refuse(Refusal::UnknownSet);
     }
-    if !is_live(book.open_year, p.vintage) {
+    if !is_live(open_year, p.vintage) {
         return Verdict::Refuse(Refusal::VintageNotLive);
     }
     if p.mg == 0 {
         return Verdict::Refuse(Refusal::ZeroAmount);
     }
-    if has_shortage(&book.shortages, p.maker, p.set) {
+    if has_shortage(shortages, p.maker, p.set) {
         return Verdict::Refuse(Refusal::HasShortage);
     }
-    if p.mg > figure_at(&book.lots, p.maker, p.set, p.vintage) {
+    if p.mg > figure_at(lots, p.maker, p.set, p.vintage) {
         return Verdict::Refuse(Refusal::AboveLot);
     }
     Verdict::Accepted

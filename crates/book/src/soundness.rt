@@ -2,6 +2,7 @@
 ghost use mathlib.Core.Path.{_≡_};
 ghost use Prim.Native.Nat.{ℕ, _<_};
 ghost use Rattle.book.specs.Sizes.{sets, families, years};
+ghost use Rattle.book.specs.Ledger.{bookOf};
 ghost use Rattle.book.specs.Soundness.{sound, cellsSound, totalsSound, totalSound, partSound, figuresSound, yearInRange};
 ghost use Rattle.book.specs.declared.ledger.Book.{Book};
 use crate::ledger::ALL_CLOSED;
@@ -23,14 +24,32 @@ const LOTS_MOST: u64 = 200_000_000_000;
 pub fn is_sound(book: Book) -> bool
     ensures { λ r. ⌜ r ≡ sound book ⌝ }
 {
-    let open_year = book.open_year;
+    arrays_sound(
+        book.open_year,
+        &book.marks,
+        &book.parts,
+        &book.lots,
+        &book.shortages,
+    )
+}
+
+// Soundness of a book whose arrays are lent: a posting asks it of the book that it works on, with no copy.
+pub(crate) fn arrays_sound<'a>(
+    open_year: u64,
+    marks: &'a [u64; 32],
+    parts: &'a [i64; 2048],
+    lots: &'a [u64; 768],
+    shortages: &'a [u64; 768],
+) -> bool
+    ensures { λ r. ⌜ r ≡ sound (bookOf «open_year» (now (marks .entry)) (now (parts .entry)) (now (lots .entry)) (now (shortages .entry))) ⌝ }
+{
     if !year_in_range(open_year) {
         return false;
     }
-    if !cells_sound(book) {
+    if !cells_sound(open_year, marks, parts, lots, shortages) {
         return false;
     }
-    totals_sound(book)
+    totals_sound(lots)
 }
 
 fn year_in_range(open_year: u64) -> bool
@@ -43,25 +62,31 @@ fn year_in_range(open_year: u64) -> bool
 }
 
 // The walk over makers, sets and years: it ends at the first fault.
-fn cells_sound(book: Book) -> bool
-    ensures { λ r. ⌜ r ≡ cellsSound book ⌝ }
+fn cells_sound<'a>(
+    open_year: u64,
+    marks: &'a [u64; 32],
+    parts: &'a [i64; 2048],
+    lots: &'a [u64; 768],
+    shortages: &'a [u64; 768],
+) -> bool
+    ensures { λ r. ⌜ r ≡ cellsSound (bookOf «open_year» (now (marks .entry)) (now (parts .entry)) (now (lots .entry)) (now (shortages .entry))) ⌝ }
 {
     let mut good = true;
     'walk: for maker in 0..MAKERS {
         for set in 0..SETS {
             let cell = maker * SETS + set;
-            let mark = book.marks[cell as usize];
+            let mark = marks[cell as usize];
             for family in 0..FAMILIES {
-                let part = book.parts[(cell * FAMILIES + family) as usize];
+                let part = parts[(cell * FAMILIES + family) as usize];
                 if !part_sound(mark, family, part) {
                     good = false;
                     break 'walk;
                 }
             }
             for i in 0..YEARS {
-                let lot = book.lots[(cell * YEARS + i) as usize];
-                let shortage = book.shortages[(cell * YEARS + i) as usize];
-                if !figures_sound(book.open_year, FIRST_YEAR + i, lot, shortage) {
+                let lot = lots[(cell * YEARS + i) as usize];
+                let shortage = shortages[(cell * YEARS + i) as usize];
+                if !figures_sound(open_year, FIRST_YEAR + i, lot, shortage) {
                     good = false;
                     break 'walk;
                 }
@@ -104,15 +129,15 @@ fn figures_sound(open_year: u64, year: u64, lot: u64, shortage: u64) -> bool
     shortage == 0
 }
 
-fn totals_sound(book: Book) -> bool
-    ensures { λ r. ⌜ r ≡ totalsSound book ⌝ }
+fn totals_sound(lots: &[u64; 768]) -> bool
+    ensures { λ r. ⌜ r ≡ totalsSound (now (lots .entry)) ⌝ }
 {
     let mut good = true;
     'walk: for set in 0..SETS {
         for i in 0..YEARS {
             let mut sum = 0;
             for maker in 0..MAKERS {
-                let lot = book.lots[((maker * SETS + set) * YEARS + i) as usize];
+                let lot = lots[((maker * SETS + set) * YEARS + i) as usize];
                 if lot > LOTS_MOST - sum {
                     good = false;
                     break 'walk;

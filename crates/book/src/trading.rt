@@ -1,5 +1,6 @@
 // Trade: moves Mg between two makers' lots of one set and vintage.
 ghost use mathlib.Core.Path.{_≡_};
+ghost use Rattle.book.specs.Ledger.{bookOf};
 ghost use Rattle.book.specs.Refusals.{firstRefusal};
 ghost use Rattle.book.specs.Rules.{posted, tradeTable};
 ghost use Rattle.book.specs.declared.kinds.Call.{Call};
@@ -7,7 +8,6 @@ use crate::answers::Answer;
 use crate::answers::Posted;
 use crate::answers::Refusal;
 use crate::answers::Verdict;
-use crate::answers::refused;
 use crate::kinds::Trade;
 use crate::ledger::Book;
 use crate::ledger::MAKERS;
@@ -16,33 +16,50 @@ use crate::ledger::figure_at;
 use crate::ledger::place_of;
 use crate::life::has_shortage;
 use crate::life::is_live;
-use crate::soundness::is_sound;
+use crate::soundness::arrays_sound;
 use figuring::units::Mg;
 
 pub fn trade(book: Book, t: Trade) -> Posted
     ensures { λ r. ⌜ r ≡ posted book (Call.Trade t) ⌝ }
 {
-    let verdict = trade_verdict(book, t);
-    if let Verdict::Refuse(why) = verdict {
-        return refused(book, why);
-    }
-    let pays = place_of(t.from, t.set, t.vintage) as usize;
-    let gets = place_of(t.to, t.set, t.vintage) as usize;
-    let left = book.lots[pays] - t.mg;
-    let more = book.lots[gets] + t.mg;
     let mut after = book;
-    after.lots[pays] = left;
-    after.lots[gets] = more;
+    let verdict = trade_verdict(
+        after.open_year,
+        &after.marks,
+        &after.parts,
+        &after.lots,
+        &after.shortages,
+        t,
+    );
+    let answer = match verdict {
+        Verdict::Refuse(why) => Answer::Refused(why),
+        Verdict::Accepted => {
+            let pays = place_of(t.from, t.set, t.vintage) as usize;
+            let gets = place_of(t.to, t.set, t.vintage) as usize;
+            let left = after.lots[pays] - t.mg;
+            let more = after.lots[gets] + t.mg;
+            after.lots[pays] = left;
+            after.lots[gets] = more;
+            Answer::Left(Mg(left))
+        }
+    };
     Posted {
-        answer: Answer::Left(Mg(left)),
+        answer: answer,
         book: after,
     }
 }
 
-fn trade_verdict(book: Book, t: Trade) -> Verdict
-    ensures { λ r. ⌜ r ≡ firstRefusal (tradeTable book t) ⌝ }
+fn trade_verdict<'a>(
+    open_year: u64,
+    marks: &'a [u64; 32],
+    parts: &'a [i64; 2048],
+    lots: &'a [u64; 768],
+    shortages: &'a [u64; 768],
+    t: Trade,
+) -> Verdict
+    ensures { λ r. ⌜ r ≡ firstRefusal (tradeTable (bookOf «open_year» (now (marks .entry)) (now (parts .entry)) (now (lots .entry)) (now (shortages .entry))) t) ⌝ }
 {
-    if !is_sound(book) {
+    if !arrays_sound(open_year, marks, parts, lots, shortages) {
         return Verdict::Refuse(Refusal::UnsoundBook);
     }
     if t.from >= MAKERS {
@@ -54,7 +71,7 @@ fn trade_verdict(book: Book, t: Trade) -> Verdict
     if t.set >= SETS {
         return Verdict::Refuse(Refusal::UnknownSet);
     }
-    if !is_live(book.open_year, t.vintage) {
+    if !is_live(open_year, t.vintage) {
         return Verdict::Refuse(Refusal::VintageNotLive);
     }
     if t.mg == 0 {
@@ -63,10 +80,10 @@ fn trade_verdict(book: Book, t: Trade) -> Verdict
     if t.from == t.to {
         return Verdict::Refuse(Refusal::SameMaker);
     }
-    if has_shortage(&book.shortages, t.from, t.set) {
+    if has_shortage(shortages, t.from, t.set) {
         return Verdict::Refuse(Refusal::HasShortage);
     }
-    if t.mg > figure_at(&book.lots, t.from, t.set, t.vintage) {
+    if t.mg > figure_at(lots, t.from, t.set, t.vintage) {
         return Verdict::Refuse(Refusal::AboveLot);
     }
     Verdict::Accepted

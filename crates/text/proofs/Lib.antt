@@ -8,8 +8,10 @@ pub mod RenderLaws
 pub mod FormLaws
 pub mod AnswerLaws
 pub mod FeedLaws
+pub mod ServeLaws
 pub mod SessionLaws
 pub mod ListingLaws
 pub mod WholeLaws
 pub mod ReaderWalk
+pub mod LentSlice
 pub mod ExampleLaws

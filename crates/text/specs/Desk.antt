@@ -76,3 +76,5 @@ pub record FedBy (room : Bool) (d : Desk) (t : Terminal) (out : List ℕ) (r : F
   pub fits-is : r .fits ≡ room
   pub serves : Serves (terminalIf room t (atDesk d)) out r out′
   pub kept : room ≡ false → r .desk ≡ d
+  -- and the desk counts the bytes that it holds, no more
+  pub len-fits : room ≡ true → r .desk .len ≤ mostHeld

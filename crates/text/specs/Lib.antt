@@ -6,6 +6,7 @@ pub mod Rendered
 pub mod Placing
 pub mod Answers
 pub mod Desk
+pub mod Serving
 pub mod Lines
 pub mod Listing
 pub mod Program

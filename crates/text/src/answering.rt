@@ -2,7 +2,7 @@
 ghost use mathlib.Core.Path.{_≡_};
 ghost use Prim.Native.Nat.{_+_, _≤_};
 ghost use lib.ListN.{length};
-ghost use Rattle.text.specs.Answers.{Answered, answerRoom, answerTo, filedText, textOf};
+ghost use Rattle.text.specs.Answers.{Answered, answerRoom, answerTo, filedText, postedLine, textOf};
 ghost use Rattle.text.specs.Placing.{Puts, Stands, roomFor};
 use crate::lines::Line;
 use crate::patterns::fill;
@@ -31,6 +31,27 @@ pub fn answer_line(book: Book, line: &[u8]) -> Posted
         },
         Line::Form(call) => post(book, call),
     }
+}
+
+pub(crate) fn line_step(book: Book, line: Line) -> Posted
+    ensures { λ p. ⌜ p ≡ postedLine book line ⌝ }
+{
+    match line {
+        Line::NoForm => Posted {
+            answer: Answer::Refused(Refusal::NotAForm),
+            book,
+        },
+        Line::Form(call) => post(book, call),
+    }
+}
+
+// A line that has been read, answered in place.
+pub fn line_in(book: &mut Book, line: Line) -> Answer
+    ensures { λ a. ⌜ (a ≡ postedLine (now (book .entry)) line .answer) × (now (book .exit) ≡ postedLine (now (book .entry)) line .book) ⌝ }
+{
+    let p = line_step(*book, line);
+    *book = p.book;
+    p.answer
 }
 
 // Puts the answer to a filing: its part, a negative one with its minus, and its count.

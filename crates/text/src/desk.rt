@@ -8,11 +8,11 @@ ghost use Rattle.text.specs.Answers.{answerRoom};
 ghost use Rattle.text.specs.Desk.{FedBy, Serves, atDesk, ends, mostHeld, openDesk, takesAll};
 use crate::answering::ANSWER_ROOM;
 use crate::answering::answer_into;
+use crate::serving::MOST_HELD;
+use crate::serving::next_line;
+use crate::serving::serve;
 use book::ledger::Book;
 use book::ledger::fresh;
-
-// A line is held up to this many bytes: they are too many already, and stand for any longer line.
-const MOST_HELD: usize = 161;
 
 // The book, and the first len bytes of a line that has not ended yet.
 pub struct Desk {
@@ -77,36 +77,29 @@ fn held_count(len: usize) -> usize
 
 fn take_chunk(desk: Desk, chunk: &[u8], out: &mut [u8]) -> Fed
     requires { ⌜ answerRoom * length (now chunk) ≤ length (now out) ⌝ }
-    ensures { λ r. ⌜ (r .fits ≡ true) × Serves (takesAll (atDesk desk) (now (chunk .entry))) (now (out .entry)) r (now (out .exit)) ⌝ }
+    ensures { λ r. ⌜ (r .fits ≡ true) × ((r .desk .len ≤ mostHeld) × Serves (takesAll (atDesk desk) (now (chunk .entry))) (now (out .entry)) r (now (out .exit))) ⌝ }
 {
-    let mut book = desk.book;
-    let mut held = desk.held;
-    let mut len = held_count(desk.len);
-    let mut w: usize = 0;
-    let mut i: usize = 0;
-    while i < chunk.len() {
-        let b = chunk[i];
-        i += 1;
-        if b == b'\n' {
-            let s = answer_into(book, &held[..len], out, w);
-            book = s.book;
-            w = s.at;
-            len = 0;
-        } else if len < MOST_HELD {
-            held[len] = b;
-            len += 1;
-        }
-    }
+    let held = desk.held;
+    let first = next_line(held, held_count(desk.len), chunk, 0, 0);
+    let book = desk.book;
+    let s = serve(book, first, chunk, out);
+    let t = s.turn;
+    let b = s.book;
+    let h = t.held;
     Fed {
         fits: true,
-        desk: Desk { book, held, len },
-        at: w,
+        desk: Desk {
+            book: b,
+            held: h,
+            len: t.len,
+        },
+        at: t.put,
     }
 }
 
 fn take_last(desk: Desk, out: &mut [u8]) -> Fed
     requires { ⌜ answerRoom ≤ length (now out) ⌝ }
-    ensures { λ r. ⌜ (r .fits ≡ true) × Serves (ends (atDesk desk)) (now (out .entry)) r (now (out .exit)) ⌝ }
+    ensures { λ r. ⌜ (r .fits ≡ true) × ((r .desk .len ≤ mostHeld) × Serves (ends (atDesk desk)) (now (out .entry)) r (now (out .exit))) ⌝ }
 {
     let book = desk.book;
     let held = desk.held;

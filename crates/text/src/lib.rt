@@ -7,4 +7,5 @@ mod numbers;
 mod patterns;
 pub mod placing;
 pub mod reader;
+mod serving;
 pub mod session;

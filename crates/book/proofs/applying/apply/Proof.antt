@@ -12,13 +12,22 @@ use Rattle.book.proofs.MoveFacts.{Applicable, applicable}
 use Rattle.book.proofs.applying.apply.Statement.{statement}
 use Rattle.book.proofs.applying.apply.Tie as tie
 
+abbrev entry : tie.After-apply-verdict → tie.Start
+entry c = c .before .before .before .before .before .before
+
+-- the lent arrays are those of the book as it came
+said :
+    (c : tie.After-apply-verdict)
+    → c .apply-verdict .result ≡ firstRefusal (applyTable (entry c .args .book) (entry c .args .p))
+said c = c .apply-verdict .ensures
+
 abbrev start : tie.After-enum-told → tie.Start
-start c = c .before .before .before
+start c = entry (c .before .before)
 
-accepted : (c : tie.After-enum-told) → firstRefusal (applyTable (start c .args .t1) (start c .args .p)) ≡ Accepted
-accepted c = sym (c .before .before .apply-verdict .ensures) ∙ c .enum-told .given .1
+accepted : (c : tie.After-enum-told) → firstRefusal (applyTable (start c .args .book) (start c .args .p)) ≡ Accepted
+accepted c = sym (said (c .before .before)) ∙ c .enum-told .given .1
 
-facts : (c : tie.After-enum-told) → Applicable (start c .args .t1) (start c .args .p)
+facts : (c : tie.After-enum-told) → Applicable (start c .args .book) (start c .args .p)
 facts c = applicable _ _ (accepted c)
 
 apply-verdict-requires : tie.Need-apply-verdict-requires
@@ -26,17 +35,6 @@ apply-verdict-requires c κs = search needs
 
 enum-known-verdict : tie.Need-enum-known-verdict
 enum-known-verdict c = search needs
-
-refused-requires : tie.Need-refused-requires
-refused-requires c κs = search needs
-
-returns : tie.Need-returns
-unfolding table
-returns c =
-    c .refused .ensures
-    ∙ sym
-    (posted-refused _ (Call.Apply _)
-    (sym (c .before .before .before .before .apply-verdict .ensures) ∙ c .before .before .verdict .given .1))
 
 enum-told : tie.Need-enum-told
 enum-told c = search needs
@@ -83,6 +81,11 @@ mul-after-2 c = search needs
 element-write-after-2 : tie.Need-element-write-after-2
 element-write-after-2 c = search needs
 
+returns : tie.Need-returns
+unfolding table
+returns c =
+    sym (posted-refused _ (Call.Apply _) (sym (said (c .before .before .before)) ∙ c .before .verdict .given .1))
+
 returns-2 : tie.Need-returns-2
 unfolding table done applied lower at
 returns-2 c =
@@ -98,8 +101,6 @@ apply-spec =
     (tie.spec
     apply-verdict-requires
     enum-known-verdict
-    refused-requires
-    returns
     enum-told
     place-of-requires
     place-of-requires-2
@@ -113,4 +114,5 @@ apply-spec =
     element-write-after
     mul-after-2
     element-write-after-2
+    returns
     returns-2)

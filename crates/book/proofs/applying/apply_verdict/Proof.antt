@@ -1,21 +1,29 @@
 -- The ladder of early returns is the table, row by row: `past-k` says that the first k rows have passed.
+use mathlib.Core.Bool.{false, not}
 use mathlib.Core.List.{List}
-use mathlib.Core.Path.{sym, _∙_}
+use mathlib.Core.Path.{_≡_, sym, _∙_}
 use native.Mathlib.Omega.{arith}
 use borrow.Author.Needs.{needs}
 use borrow.Author.Tests.{le-leb, lt-leb, lt-ltb, le-ltb, eq-eqb, ne-eqb}
-use Rattle.book.specs.Ledger.{In}
+use Rattle.book.specs.Ledger.{In, bookOf}
+use Rattle.book.specs.Soundness.{sound}
 use Rattle.book.specs.Postings.{appliedLot, coveredShortage}
 use Rattle.book.specs.Refusals.{Row}
 use Rattle.book.specs.Rules.{applyTable}
+use Rattle.book.specs.declared.ledger.Book.{Book}
 use Rattle.book.proofs.TableLaws.{Past, not-of}
 use Rattle.book.proofs.MoveFacts.{live-in, open-in}
 use Rattle.book.proofs.applying.apply_verdict.Statement.{statement}
 use Rattle.book.proofs.applying.apply_verdict.Tie as tie
 
--- the table at the function's entry
+-- the book whose arrays are lent, and the table at the function's entry
+abbrev book : tie.Start → Book
+book s =
+    bookOf (s .args .open-year) (s .args .marks .now) (s .args .parts .now) (s .args .lots .now)
+    (s .args .shortages .now)
+
 abbrev tab : tie.Start → List Row
-tab s = applyTable (s .args .t1) (s .args .p)
+tab s = applyTable (book s) (s .args .p)
 
 abbrev start-1 : tie.Else1 → tie.Start
 start-1 c = c .before .before
@@ -36,14 +44,18 @@ abbrev start-6 : tie.Else6 → tie.Start
 start-6 c = start-5 (c .before .before)
 
 abbrev start-7 : tie.Else7 → tie.Start
-start-7 c = start-6 (c .before .before .before .before)
+start-7 c = start-6 (c .before .before)
 
 abbrev start-8 : tie.Else8 → tie.Start
-start-8 c = start-7 (c .before .before .before .before .before)
+start-8 c = start-7 (c .before .before .before)
+
+-- the first row, by the callee's answer
+tested : (c : tie.Else1) → not (sound (book (start-1 c))) ≡ false
+tested c = not-of (c .before .arrays-sound .ensures) (c .if1 .left)
 
 past-1 : (c : tie.Else1) → Past 1 (tab (start-1 c))
 unfolding applyTable
-past-1 c = rw (not-of (c .before .is-sound .ensures) (c .if1 .left))
+past-1 c = rw (tested c)
 
 past-2 : (c : tie.Else2) → Past 2 (tab (start-2 c))
 unfolding applyTable
@@ -68,34 +80,32 @@ past-6 c = past-5 (c .before .before) ∙ rw (not-of (c .before .is-open .ensure
 past-7 : (c : tie.Else7) → Past 7 (tab (start-7 c))
 unfolding applyTable
 past-7 c =
-    past-6 (c .before .before .before .before)
+    past-6 (c .before .before)
     ∙ rw (← (c .before .figure-at .ensures), ne-eqb _ _ (c .if7 .left))
 
 past-8 : (c : tie.Else8) → Past 8 (tab (start-8 c))
 unfolding applyTable
 past-8 c =
-    past-7 (c .before .before .before .before .before)
+    past-7 (c .before .before .before)
     ∙ rw (← (c .before .before .figure-at2 .ensures), le-ltb _ _ (c .if8 .left))
 
 -- the paying lot and the shortage are the book's
 payer : (c : tie.Else4) → In (appliedLot (start-4 c .args .p))
 payer c =
-    let e : tie.Else1 = c .before .before .before .before .before .before in
-    live-in _ _ (not-of (e .before .is-sound .ensures) (e .if1 .left)) (omega arith) (omega arith)
+    live-in _ _ (tested (c .before .before .before .before .before .before)) (omega arith) (omega arith)
     (not-of (c .before .is-live .ensures) (c .if4 .left))
 
 shortage : (c : tie.Else6) → In (coveredShortage (start-6 c .args .p))
 shortage c =
-    let e : tie.Else1 = c .before .before .before .before .before .before .before .before .before .before in
-    open-in _ _ (not-of (e .before .is-sound .ensures) (e .if1 .left)) (omega arith) (omega arith)
+    open-in _ _ (tested (c .before .before .before .before .before .before .before .before .before .before)) (omega arith) (omega arith)
     (not-of (c .before .is-open .ensures) (c .if6 .left))
 
-is-sound-requires : tie.Need-is-sound-requires
-is-sound-requires c κs = search needs
+arrays-sound-requires : tie.Need-arrays-sound-requires
+arrays-sound-requires c κs = search needs
 
 returns : tie.Need-returns
 unfolding applyTable
-returns c = rw (not-of (c .before .is-sound .ensures) (c .if1 .taken))
+returns c = rw (not-of (c .before .arrays-sound .ensures) (c .if1 .taken))
 
 returns-2 : tie.Need-returns-2
 unfolding applyTable
@@ -124,23 +134,23 @@ unfolding applyTable
 returns-6 c = sym (past-5 (c .before .before) ∙ rw (not-of (c .before .is-open .ensures) (c .if6 .taken)))
 
 figure-at-requires : tie.Need-figure-at-requires
-figure-at-requires c κs = shortage (c .before .before)
+figure-at-requires c κs = shortage c
 
 returns-7 : tie.Need-returns-7
 unfolding applyTable
 returns-7 c =
     sym
-    (past-6 (c .before .before .before .before)
+    (past-6 (c .before .before)
     ∙ rw (← (c .before .figure-at .ensures), eq-eqb _ _ (c .if7 .taken)))
 
 figure-at-requires-2 : tie.Need-figure-at-requires-2
-figure-at-requires-2 c κs = payer (c .before .before .before .before .before .before .before .before .before .before)
+figure-at-requires-2 c κs = payer (c .before .before .before .before .before .before)
 
 returns-8 : tie.Need-returns-8
 unfolding applyTable
 returns-8 c =
     sym
-    (past-7 (c .before .before .before .before .before)
+    (past-7 (c .before .before .before)
     ∙ rw (← (c .before .before .figure-at2 .ensures), lt-ltb _ _ (c .if8 .taken)))
 
 returns-9 : tie.Need-returns-9
@@ -149,7 +159,7 @@ returns-9 c =
     sym
     (past-8 (c .before .before)
     ∙ rw (
-      ← (c .before .before .before .before .before .before .before .before .figure-at .ensures),
+      ← (c .before .before .before .before .before .before .figure-at .ensures),
       lt-ltb _ _ (c .if9 .taken),
     ))
 
@@ -159,7 +169,7 @@ returns-10 c =
     sym
     (past-8 (c .before .before)
     ∙ rw (
-      ← (c .before .before .before .before .before .before .before .before .figure-at .ensures),
+      ← (c .before .before .before .before .before .before .figure-at .ensures),
       le-ltb _ _ (c .if9 .left),
     ))
 
@@ -167,7 +177,7 @@ pub apply-verdict-spec : {M : Type 1} → statement M
 apply-verdict-spec =
     tie.close
     (tie.spec
-    is-sound-requires
+    arrays-sound-requires
     returns
     returns-2
     returns-3

@@ -10,29 +10,20 @@ use Rattle.book.proofs.CloseFacts.{Closable, closable}
 use Rattle.book.proofs.closing.close.Statement.{statement}
 use Rattle.book.proofs.closing.close.Tie as tie
 
-accepted :
-    (c : tie.After-enum-told)
-    → firstRefusal (closeTable (c .before .before .before .args .book) (c .before .before .before .args .year)) ≡ Accepted
+abbrev start : tie.After-enum-told → tie.Start
+start c = c .before .before .before .before .before .before .before .before
+
+accepted : (c : tie.After-enum-told) → firstRefusal (closeTable (start c .args .book) (start c .args .year)) ≡ Accepted
 accepted c = sym (c .before .before .close-verdict .ensures) ∙ c .enum-told .given .1
 
-facts :
-    (c : tie.After-enum-told) → Closable (c .before .before .before .args .book) (c .before .before .before .args .year)
+facts : (c : tie.After-enum-told) → Closable (start c .args .book) (start c .args .year)
 facts c = closable _ _ (accepted c)
 
 close-verdict-requires : tie.Need-close-verdict-requires
 close-verdict-requires c κs = search needs
 
-enum-known-verdict : tie.Need-enum-known-verdict
-enum-known-verdict c = search needs
-
-refused-requires : tie.Need-refused-requires
-refused-requires c κs = search needs
-
-returns : tie.Need-returns
-unfolding table
-returns c =
-    c .refused .ensures
-    ∙ sym (posted-refused _ _ (sym (c .before .before .before .before .close-verdict .ensures) ∙ c .before .before .verdict .given .1))
+enum-known-why : tie.Need-enum-known-why
+enum-known-why c = search needs
 
 enum-told : tie.Need-enum-told
 enum-told c = search needs
@@ -40,24 +31,28 @@ enum-told c = search needs
 net-cells-requires : tie.Need-net-cells-requires
 net-cells-requires c κs = (facts c .sound, facts c .upto)
 
-add-t9 : tie.Need-add-t9
-add-t9 c = omega (arith, facts (c .before .before .before .before))
+add-t18 : tie.Need-add-t18
+add-t18 c = omega (arith, facts (c .before .before .before))
+
+returns : tie.Need-returns
+unfolding table
+returns c =
+    sym (posted-refused _ _ (sym (c .before .before .before .close-verdict .ensures) ∙ c .before .why .given .1))
 
 returns-2 : tie.Need-returns-2
 unfolding table done closed
 returns-2 c =
-    let e = c .before .before .before .net-cells .ensures in
-    rw (e .0, e .1 .0, e .1 .1) (sym (posted-accepted _ _ (accepted (c .before .before .before .before))))
+    let e = c .before .before .net-cells .ensures in
+    rw (e .0, e .1 .0, e .1 .1) (sym (posted-accepted _ _ (accepted (c .before .before .before))))
 
 pub close-spec : {M : Type 1} → statement M
 close-spec =
     tie.close
     (tie.spec
     close-verdict-requires
-    enum-known-verdict
-    refused-requires
-    returns
+    enum-known-why
     enum-told
     net-cells-requires
-    add-t9
+    add-t18
+    returns
     returns-2)

@@ -3,15 +3,20 @@ use mathlib.Core.Path.{sym, _∙_}
 use mathlib.Core.List.{List}
 use borrow.Author.Tests.{le-leb, lt-leb, eq-eqb, ne-eqb}
 use borrow.Author.Needs.{needs}
+use Rattle.book.specs.Ledger.{bookOf}
 use Rattle.book.specs.Refusals.{Row}
 use Rattle.book.specs.Rules.{fileTable}
+use Rattle.book.specs.declared.ledger.Book.{Book}
 use Rattle.book.proofs.TableLaws.{Past, not-of}
 use Rattle.book.proofs.filing.file_verdict.Statement.{statement}
 use Rattle.book.proofs.filing.file_verdict.Tie as tie
 
--- the table of the function's entry
+-- the book whose arrays are lent, and the table of the function's entry
+abbrev book : tie.Start → Book
+book s = bookOf (s .args .open-year) (s .args .marks .now) (s .args .parts .now) (s .args .lots .now) (s .args .shortages .now)
+
 abbrev tab : tie.Start → List Row
-tab s = fileTable (s .args .t1) (s .args .f)
+tab s = fileTable (book s) (s .args .f)
 
 abbrev start-1 : tie.Else1 → tie.Start
 start-1 c = c .before .before
@@ -39,7 +44,7 @@ start-8 c = start-7 (c .before .before)
 
 past-1 : (c : tie.Else1) → Past 1 (tab (start-1 c))
 unfolding fileTable
-past-1 c = rw (not-of (c .before .is-sound .ensures) (c .if1 .left))
+past-1 c = rw (not-of (c .before .arrays-sound .ensures) (c .if1 .left))
 
 past-2 : (c : tie.Else2) → Past 2 (tab (start-2 c))
 unfolding fileTable
@@ -71,12 +76,12 @@ past-8 : (c : tie.Else8) → Past 8 (tab (start-8 c))
 unfolding fileTable
 past-8 c = past-7 (c .before .before) ∙ rw (not-of (c .before .within-limits .ensures) (c .if8 .left))
 
-is-sound-requires : tie.Need-is-sound-requires
-is-sound-requires c κs = search needs
+arrays-sound-requires : tie.Need-arrays-sound-requires
+arrays-sound-requires c κs = search needs
 
 returns : tie.Need-returns
 unfolding fileTable
-returns c = rw (not-of (c .before .is-sound .ensures) (c .if1 .taken))
+returns c = rw (not-of (c .before .arrays-sound .ensures) (c .if1 .taken))
 
 returns-2 : tie.Need-returns-2
 unfolding fileTable
@@ -147,7 +152,7 @@ pub file-verdict-spec : {M : Type 1} → statement M
 file-verdict-spec =
     tie.close
     (tie.spec
-    is-sound-requires
+    arrays-sound-requires
     returns
     returns-2
     returns-3

@@ -1,68 +1,28 @@
-use borrow.Author.Needs.{needs}
-use Rattle.book.proofs.posting.post.Statement.{statement}
-use Rattle.book.proofs.posting.post.Tie as tie
+-- `book::posting::post` meets its contract: the walk of `LentWalk`, at `post_in`.
+-- Assumes nothing.
+use contract.Running.{givenOf, tables, tablesOf}
+use denote.Triple.Spec.{tripleOf}
+use denote.Triple.Table.{entered, cited}
+use Rattle.book.specs.Rules.{posted}
+use Rattle.book.proofs.InPlaceWalk.{Passed, of-enum, Thin}
+use Rattle.book.proofs.LentWalk.{meets}
+use Rattle.book.proofs.kinds.Call as X
+use Rattle.book.proofs.kinds.Call.Laws as X′
+use Rattle.book.proofs.in_place.post_in.Symbol as step-def
+use Rattle.book.proofs.in_place.post_in.Symbol.{name as #step}
+use Rattle.book.proofs.in_place.post_in.Met as step-thm
+use Rattle.book.proofs.posting.post.Key.{name as #own}
+use Rattle.book.proofs.posting.post as f
+use Rattle.book.proofs.posting.post.Statement as stated
+use Rattle.book.proofs.posting.post.Code as code
 
-enum-known-call : tie.Need-enum-known-call
-enum-known-call c = search needs
+abbrev passed : Passed
+passed = of-enum X.the-type X′.the-laws X′.the-copy X′.the-plain tt
 
-file-lent-requires : tie.Need-file-lent-requires
-file-lent-requires c κs = search needs
-
-enum-known-call-2 : tie.Need-enum-known-call-2
-enum-known-call-2 c = search needs
-
-close-lent-requires : tie.Need-close-lent-requires
-close-lent-requires c κs = search needs
-
-enum-known-call-3 : tie.Need-enum-known-call-3
-enum-known-call-3 c = search needs
-
-trade-lent-requires : tie.Need-trade-lent-requires
-trade-lent-requires c κs = search needs
-
-enum-known-call-4 : tie.Need-enum-known-call-4
-enum-known-call-4 c = search needs
-
-apply-lent-requires : tie.Need-apply-lent-requires
-apply-lent-requires c κs = search needs
-
-enum-known-call-5 : tie.Need-enum-known-call-5
-enum-known-call-5 c = search needs
-
-retire-lent-requires : tie.Need-retire-lent-requires
-retire-lent-requires c κs = search needs
-
-returns : tie.Need-returns
-returns c = cc
-
-returns-2 : tie.Need-returns-2
-returns-2 c = cc
-
-returns-3 : tie.Need-returns-3
-returns-3 c = cc
-
-returns-4 : tie.Need-returns-4
-returns-4 c = cc
-
-returns-5 : tie.Need-returns-5
-returns-5 c = cc
-
-pub post-spec : {M : Type 1} → statement M
-post-spec =
-    tie.close
-    (tie.spec
-    enum-known-call
-    file-lent-requires
-    enum-known-call-2
-    close-lent-requires
-    enum-known-call-3
-    trade-lent-requires
-    enum-known-call-4
-    apply-lent-requires
-    enum-known-call-5
-    retire-lent-requires
-    returns
-    returns-2
-    returns-3
-    returns-4
-    returns-5)
+pub post-spec : {M : Type 1} → stated.statement M
+unfolding code.routine tablesOf
+post-spec 𝓤 H 𝓜 𝓖 𝓡 =
+    entered 𝓤 H (tripleOf 𝓤 H (𝓖 .A) f.signature (f.spec 𝓤 H (𝓖 .A) (𝓜 .mem) (𝓡 .run)))
+    (tables 𝓤 H 𝓜 𝓡 code.env .C) (tables 𝓤 H 𝓜 𝓡 code.env .Λ) #own code.function (code.unfolded 𝓤 H 𝓜 𝓡)
+    (meets passed posted 𝓤 H (𝓖 .A) (givenOf 𝓤 H 𝓜 𝓖) (tablesOf 𝓤 H 𝓜 (tables 𝓤 H 𝓜 𝓡 code.env)) #step
+    (cited 𝓤 H (Thin passed posted 𝓤 H (𝓖 .A)) 𝓜 𝓡 code.env #step step-def.routine code.calls-book·in-place·post-in (step-thm.met 𝓤 H 𝓜 𝓖 𝓡)))

@@ -12,13 +12,22 @@ use Rattle.book.proofs.MoveFacts.{Retirable, retirable}
 use Rattle.book.proofs.retiring.retire.Statement.{statement}
 use Rattle.book.proofs.retiring.retire.Tie as tie
 
+abbrev entry : tie.After-retire-verdict → tie.Start
+entry c = c .before .before .before .before .before .before
+
+-- the lent arrays are those of the book as it came
+said :
+    (c : tie.After-retire-verdict)
+    → c .retire-verdict .result ≡ firstRefusal (retireTable (entry c .args .book) (entry c .args .p))
+said c = c .retire-verdict .ensures
+
 abbrev start : tie.After-enum-told → tie.Start
-start c = c .before .before .before
+start c = entry (c .before .before)
 
-accepted : (c : tie.After-enum-told) → firstRefusal (retireTable (start c .args .t1) (start c .args .p)) ≡ Accepted
-accepted c = sym (c .before .before .retire-verdict .ensures) ∙ c .enum-told .given .1
+accepted : (c : tie.After-enum-told) → firstRefusal (retireTable (start c .args .book) (start c .args .p)) ≡ Accepted
+accepted c = sym (said (c .before .before)) ∙ c .enum-told .given .1
 
-facts : (c : tie.After-enum-told) → Retirable (start c .args .t1) (start c .args .p)
+facts : (c : tie.After-enum-told) → Retirable (start c .args .book) (start c .args .p)
 facts c = retirable _ _ (accepted c)
 
 retire-verdict-requires : tie.Need-retire-verdict-requires
@@ -26,17 +35,6 @@ retire-verdict-requires c κs = search needs
 
 enum-known-verdict : tie.Need-enum-known-verdict
 enum-known-verdict c = search needs
-
-refused-requires : tie.Need-refused-requires
-refused-requires c κs = search needs
-
-returns : tie.Need-returns
-unfolding table
-returns c =
-    c .refused .ensures
-    ∙ sym
-    (posted-refused _ (Call.Retire _)
-    (sym (c .before .before .before .before .retire-verdict .ensures) ∙ c .before .before .verdict .given .1))
 
 enum-told : tie.Need-enum-told
 enum-told c = search needs
@@ -60,6 +58,11 @@ mul-after c = search needs
 element-write-after : tie.Need-element-write-after
 element-write-after c = search needs
 
+returns : tie.Need-returns
+unfolding table
+returns c =
+    sym (posted-refused _ (Call.Retire _) (sym (said (c .before .before .before)) ∙ c .before .verdict .given .1))
+
 returns-2 : tie.Need-returns-2
 unfolding table done retired lower at
 returns-2 c =
@@ -72,8 +75,6 @@ retire-spec =
     (tie.spec
     retire-verdict-requires
     enum-known-verdict
-    refused-requires
-    returns
     enum-told
     place-of-requires
     mul-left
@@ -81,4 +82,5 @@ retire-spec =
     sub-left
     mul-after
     element-write-after
+    returns
     returns-2)

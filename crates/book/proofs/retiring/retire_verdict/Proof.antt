@@ -1,21 +1,29 @@
 -- The ladder of early returns is the table, row by row: `past-k` says that the first k rows have passed.
+use mathlib.Core.Bool.{false, not}
 use mathlib.Core.List.{List}
-use mathlib.Core.Path.{sym, _∙_}
+use mathlib.Core.Path.{_≡_, sym, _∙_}
 use native.Mathlib.Omega.{arith}
 use borrow.Author.Needs.{needs}
 use borrow.Author.Tests.{le-leb, lt-leb, lt-ltb, le-ltb, eq-eqb, ne-eqb}
-use Rattle.book.specs.Ledger.{In}
+use Rattle.book.specs.Ledger.{In, bookOf}
+use Rattle.book.specs.Soundness.{sound}
 use Rattle.book.specs.Postings.{retiredLot}
 use Rattle.book.specs.Refusals.{Row}
 use Rattle.book.specs.Rules.{retireTable}
+use Rattle.book.specs.declared.ledger.Book.{Book}
 use Rattle.book.proofs.TableLaws.{Past, not-of}
 use Rattle.book.proofs.MoveFacts.{live-in}
 use Rattle.book.proofs.retiring.retire_verdict.Statement.{statement}
 use Rattle.book.proofs.retiring.retire_verdict.Tie as tie
 
--- the table at the function's entry
+-- the book whose arrays are lent, and the table at the function's entry
+abbrev book : tie.Start → Book
+book s =
+    bookOf (s .args .open-year) (s .args .marks .now) (s .args .parts .now) (s .args .lots .now)
+    (s .args .shortages .now)
+
 abbrev tab : tie.Start → List Row
-tab s = retireTable (s .args .t1) (s .args .p)
+tab s = retireTable (book s) (s .args .p)
 
 abbrev start-1 : tie.Else1 → tie.Start
 start-1 c = c .before .before
@@ -33,11 +41,15 @@ abbrev start-5 : tie.Else5 → tie.Start
 start-5 c = start-4 (c .before .before)
 
 abbrev start-6 : tie.Else6 → tie.Start
-start-6 c = start-5 (c .before .before .before .before)
+start-6 c = start-5 (c .before .before)
+
+-- the first row, by the callee's answer
+tested : (c : tie.Else1) → not (sound (book (start-1 c))) ≡ false
+tested c = not-of (c .before .arrays-sound .ensures) (c .if1 .left)
 
 past-1 : (c : tie.Else1) → Past 1 (tab (start-1 c))
 unfolding retireTable
-past-1 c = rw (not-of (c .before .is-sound .ensures) (c .if1 .left))
+past-1 c = rw (tested c)
 
 past-2 : (c : tie.Else2) → Past 2 (tab (start-2 c))
 unfolding retireTable
@@ -57,21 +69,20 @@ past-5 c = past-4 (c .before .before) ∙ rw (ne-eqb _ _ (c .if5 .left))
 
 past-6 : (c : tie.Else6) → Past 6 (tab (start-6 c))
 unfolding retireTable
-past-6 c = past-5 (c .before .before .before .before) ∙ rw (← (c .before .has-shortage .ensures), c .if6 .left)
+past-6 c = past-5 (c .before .before) ∙ rw (← (c .before .has-shortage .ensures), c .if6 .left)
 
 -- the paying lot is one of the book's
 payer : (c : tie.Else4) → In (retiredLot (start-4 c .args .p))
 payer c =
-    let e : tie.Else1 = c .before .before .before .before .before .before in
-    live-in _ _ (not-of (e .before .is-sound .ensures) (e .if1 .left)) (omega arith) (omega arith)
+    live-in _ _ (tested (c .before .before .before .before .before .before)) (omega arith) (omega arith)
     (not-of (c .before .is-live .ensures) (c .if4 .left))
 
-is-sound-requires : tie.Need-is-sound-requires
-is-sound-requires c κs = search needs
+arrays-sound-requires : tie.Need-arrays-sound-requires
+arrays-sound-requires c κs = search needs
 
 returns : tie.Need-returns
 unfolding retireTable
-returns c = rw (not-of (c .before .is-sound .ensures) (c .if1 .taken))
+returns c = rw (not-of (c .before .arrays-sound .ensures) (c .if1 .taken))
 
 returns-2 : tie.Need-returns-2
 unfolding retireTable
@@ -99,31 +110,31 @@ returns-6 : tie.Need-returns-6
 unfolding retireTable
 returns-6 c =
     sym
-    (past-5 (c .before .before .before .before)
+    (past-5 (c .before .before)
     ∙ rw (← (c .before .has-shortage .ensures), c .if6 .taken))
 
 figure-at-requires : tie.Need-figure-at-requires
-figure-at-requires c κs = payer (c .before .before .before .before .before .before .before .before)
+figure-at-requires c κs = payer (c .before .before .before .before)
 
 returns-7 : tie.Need-returns-7
 unfolding retireTable
 returns-7 c =
     sym
-    (past-6 (c .before .before .before .before .before)
+    (past-6 (c .before .before .before)
     ∙ rw (← (c .before .before .figure-at .ensures), lt-ltb _ _ (c .if7 .taken)))
 
 returns-8 : tie.Need-returns-8
 unfolding retireTable
 returns-8 c =
     sym
-    (past-6 (c .before .before .before .before .before)
+    (past-6 (c .before .before .before)
     ∙ rw (← (c .before .before .figure-at .ensures), le-ltb _ _ (c .if7 .left)))
 
 pub retire-verdict-spec : {M : Type 1} → statement M
 retire-verdict-spec =
     tie.close
     (tie.spec
-    is-sound-requires
+    arrays-sound-requires
     returns
     returns-2
     returns-3

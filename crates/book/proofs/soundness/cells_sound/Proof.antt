@@ -6,7 +6,7 @@ use Prim.Native.Nat.{_≤_, _-_}
 use Rattle.figuring.proofs.BoolLaws.{denied, granted}
 use Rattle.book.specs.Sizes.{makers, sets, families, years}
 use Rattle.book.specs.Below.{allBelow}
-use Rattle.book.specs.Ledger.{cell}
+use Rattle.book.specs.Ledger.{bookOf, cell}
 use Rattle.book.specs.Soundness.{familySound, yearSound, cellSound, makerSound, cellsSound}
 use Rattle.book.proofs.BelowLaws.{all-more, all-done, and-intro}
 use Rattle.book.proofs.PlaceLaws.{heard-family, heard-year, family-fault, year-fault}
@@ -14,32 +14,32 @@ use Rattle.book.proofs.soundness.cells_sound.Statement.{statement}
 use Rattle.book.proofs.soundness.cells_sound.Tie as tie
 
 abbrev Inv-loop2 : tie.InvT-loop2
-Inv-loop2 book good₀ maker set cell mark family₀ good family =
-    (family ≤ families) × ((good ≡ true) × (allBelow family (familySound book cell) ≡ true))
+Inv-loop2 open-year marks parts lots shortages good₀ maker set cell mark family₀ good family =
+    (family ≤ families) × ((good ≡ true) × (allBelow family (familySound (bookOf open-year marks parts lots shortages) cell) ≡ true))
 
 abbrev μ-loop2 : tie.MeasureT-loop2
-μ-loop2 book good₀ maker set cell mark family₀ good family = families - family
+μ-loop2 open-year marks parts lots shortages good₀ maker set cell mark family₀ good family = families - family
 
 abbrev Inv-loop3 : tie.InvT-loop3
-Inv-loop3 book good₀ maker set cell mark i₀ good i =
-    (i ≤ years) × ((good ≡ true) × (allBelow i (yearSound book maker set) ≡ true))
+Inv-loop3 open-year marks parts lots shortages good₀ maker set cell mark i₀ good i =
+    (i ≤ years) × ((good ≡ true) × (allBelow i (yearSound (bookOf open-year marks parts lots shortages) maker set) ≡ true))
 
 abbrev μ-loop3 : tie.MeasureT-loop3
-μ-loop3 book good₀ maker set cell mark i₀ good i = years - i
+μ-loop3 open-year marks parts lots shortages good₀ maker set cell mark i₀ good i = years - i
 
 abbrev Inv-loop : tie.InvT-loop
-Inv-loop book good₀ maker set₀ good set =
-    (set ≤ sets) × ((good ≡ true) × (allBelow set (cellSound book maker) ≡ true))
+Inv-loop open-year marks parts lots shortages good₀ maker set₀ good set =
+    (set ≤ sets) × ((good ≡ true) × (allBelow set (cellSound (bookOf open-year marks parts lots shortages) maker) ≡ true))
 
 abbrev μ-loop : tie.MeasureT-loop
-μ-loop book good₀ maker set₀ good set = sets - set
+μ-loop open-year marks parts lots shortages good₀ maker set₀ good set = sets - set
 
 abbrev Inv-walk : tie.InvT-walk
-Inv-walk book good₀ maker₀ good maker =
-    (maker ≤ makers) × ((good ≡ true) × (allBelow maker (makerSound book) ≡ true))
+Inv-walk open-year marks parts lots shortages good₀ maker₀ good maker =
+    (maker ≤ makers) × ((good ≡ true) × (allBelow maker (makerSound (bookOf open-year marks parts lots shortages)) ≡ true))
 
 abbrev μ-walk : tie.MeasureT-walk
-μ-walk book good₀ maker₀ good maker = makers - maker
+μ-walk open-year marks parts lots shortages good₀ maker₀ good maker = makers - maker
 
 walk-holds :
     tie.Need-walk-holds Inv-loop2 μ-loop2 Inv-loop3 μ-loop3 Inv-loop μ-loop Inv-walk μ-walk

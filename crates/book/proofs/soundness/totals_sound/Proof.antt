@@ -13,25 +13,25 @@ use Rattle.book.proofs.soundness.totals_sound.Statement.{statement}
 use Rattle.book.proofs.soundness.totals_sound.Tie as tie
 
 abbrev Inv-loop2 : tie.InvT-loop2
-Inv-loop2 book good₀ set i sum₀ maker₀ good sum maker =
-    (maker ≤ makers) × ((good ≡ true) × ((sum ≡ sumBelow maker (lotOf book set i)) × (sum ≤ lotsMost)))
+Inv-loop2 lots good₀ set i sum₀ maker₀ good sum maker =
+    (maker ≤ makers) × ((good ≡ true) × ((sum ≡ sumBelow maker (lotOf lots set i)) × (sum ≤ lotsMost)))
 
 abbrev μ-loop2 : tie.MeasureT-loop2
-μ-loop2 book good₀ set i sum₀ maker₀ good sum maker = makers - maker
+μ-loop2 lots good₀ set i sum₀ maker₀ good sum maker = makers - maker
 
 abbrev Inv-loop : tie.InvT-loop
-Inv-loop book good₀ set i₀ good i =
-    (i ≤ years) × ((good ≡ true) × (allBelow i (totalSound book set) ≡ true))
+Inv-loop lots good₀ set i₀ good i =
+    (i ≤ years) × ((good ≡ true) × (allBelow i (totalSound lots set) ≡ true))
 
 abbrev μ-loop : tie.MeasureT-loop
-μ-loop book good₀ set i₀ good i = years - i
+μ-loop lots good₀ set i₀ good i = years - i
 
 abbrev Inv-walk : tie.InvT-walk
-Inv-walk book good₀ set₀ good set =
-    (set ≤ sets) × ((good ≡ true) × (allBelow set (setSound book) ≡ true))
+Inv-walk lots good₀ set₀ good set =
+    (set ≤ sets) × ((good ≡ true) × (allBelow set (setSound lots) ≡ true))
 
 abbrev μ-walk : tie.MeasureT-walk
-μ-walk book good₀ set₀ good set = sets - set
+μ-walk lots good₀ set₀ good set = sets - set
 
 walk-holds : tie.Need-walk-holds Inv-loop2 μ-loop2 Inv-loop μ-loop Inv-walk μ-walk
 unfolding allBelow
@@ -83,7 +83,7 @@ loop2-again c =
       search needs,
       (
         search needs,
-        omega (arith, total-more (year .before .before .before .args .t1) (year .before .before .walk .set) (year .loop .i) (turn .loop2 .maker)),
+        omega (arith, total-more (year .before .before .before .args .lots .now) (year .before .before .walk .set) (year .loop .i) (turn .loop2 .maker)),
       ),
     )
 

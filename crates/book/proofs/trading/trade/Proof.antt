@@ -13,13 +13,22 @@ use Rattle.book.proofs.MoveFacts.{Tradable, tradable, swapped}
 use Rattle.book.proofs.trading.trade.Statement.{statement}
 use Rattle.book.proofs.trading.trade.Tie as tie
 
+abbrev entry : tie.After-trade-verdict → tie.Start
+entry c = c .before .before .before .before .before .before
+
+-- the lent arrays are those of the book as it came
+said :
+    (c : tie.After-trade-verdict)
+    → c .trade-verdict .result ≡ firstRefusal (tradeTable (entry c .args .book) (entry c .args .t))
+said c = c .trade-verdict .ensures
+
 abbrev start : tie.After-enum-told → tie.Start
-start c = c .before .before .before
+start c = entry (c .before .before)
 
-accepted : (c : tie.After-enum-told) → firstRefusal (tradeTable (start c .args .t1) (start c .args .t)) ≡ Accepted
-accepted c = sym (c .before .before .trade-verdict .ensures) ∙ c .enum-told .given .1
+accepted : (c : tie.After-enum-told) → firstRefusal (tradeTable (start c .args .book) (start c .args .t)) ≡ Accepted
+accepted c = sym (said (c .before .before)) ∙ c .enum-told .given .1
 
-facts : (c : tie.After-enum-told) → Tradable (start c .args .t1) (start c .args .t)
+facts : (c : tie.After-enum-told) → Tradable (start c .args .book) (start c .args .t)
 facts c = tradable _ _ (accepted c)
 
 trade-verdict-requires : tie.Need-trade-verdict-requires
@@ -27,17 +36,6 @@ trade-verdict-requires c κs = search needs
 
 enum-known-verdict : tie.Need-enum-known-verdict
 enum-known-verdict c = search needs
-
-refused-requires : tie.Need-refused-requires
-refused-requires c κs = search needs
-
-returns : tie.Need-returns
-unfolding table
-returns c =
-    c .refused .ensures
-    ∙ sym
-    (posted-refused _ (Call.Trade _)
-    (sym (c .before .before .before .before .trade-verdict .ensures) ∙ c .before .before .verdict .given .1))
 
 enum-told : tie.Need-enum-told
 enum-told c = search needs
@@ -84,6 +82,11 @@ mul-after-2 c = search needs
 element-write-after-2 : tie.Need-element-write-after-2
 element-write-after-2 c = search needs
 
+returns : tie.Need-returns
+unfolding table
+returns c =
+    sym (posted-refused _ (Call.Trade _) (sym (said (c .before .before .before)) ∙ c .before .verdict .given .1))
+
 returns-2 : tie.Need-returns-2
 unfolding table done traded at
 returns-2 c =
@@ -101,8 +104,6 @@ trade-spec =
     (tie.spec
     trade-verdict-requires
     enum-known-verdict
-    refused-requires
-    returns
     enum-told
     place-of-requires
     place-of-requires-2
@@ -116,4 +117,5 @@ trade-spec =
     element-write-after
     mul-after-2
     element-write-after-2
+    returns
     returns-2)

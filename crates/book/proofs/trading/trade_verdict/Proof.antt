@@ -1,21 +1,29 @@
 -- The ladder of early returns is the table, row by row: `past-k` says that the first k rows have passed.
+use mathlib.Core.Bool.{false, not}
 use mathlib.Core.List.{List}
-use mathlib.Core.Path.{sym, _∙_}
+use mathlib.Core.Path.{_≡_, sym, _∙_}
 use native.Mathlib.Omega.{arith}
 use borrow.Author.Needs.{needs}
 use borrow.Author.Tests.{le-leb, lt-leb, lt-ltb, le-ltb, eq-eqb, ne-eqb}
-use Rattle.book.specs.Ledger.{In}
+use Rattle.book.specs.Ledger.{In, bookOf}
+use Rattle.book.specs.Soundness.{sound}
 use Rattle.book.specs.Postings.{sellerLot}
 use Rattle.book.specs.Refusals.{Row}
 use Rattle.book.specs.Rules.{tradeTable}
+use Rattle.book.specs.declared.ledger.Book.{Book}
 use Rattle.book.proofs.TableLaws.{Past, not-of}
 use Rattle.book.proofs.MoveFacts.{live-in}
 use Rattle.book.proofs.trading.trade_verdict.Statement.{statement}
 use Rattle.book.proofs.trading.trade_verdict.Tie as tie
 
--- the table at the function's entry
+-- the book whose arrays are lent, and the table at the function's entry
+abbrev book : tie.Start → Book
+book s =
+    bookOf (s .args .open-year) (s .args .marks .now) (s .args .parts .now) (s .args .lots .now)
+    (s .args .shortages .now)
+
 abbrev tab : tie.Start → List Row
-tab s = tradeTable (s .args .t1) (s .args .t)
+tab s = tradeTable (book s) (s .args .t)
 
 abbrev start-1 : tie.Else1 → tie.Start
 start-1 c = c .before .before
@@ -39,11 +47,15 @@ abbrev start-7 : tie.Else7 → tie.Start
 start-7 c = start-6 (c .before .before)
 
 abbrev start-8 : tie.Else8 → tie.Start
-start-8 c = start-7 (c .before .before .before .before)
+start-8 c = start-7 (c .before .before)
+
+-- the first row, by the callee's answer
+tested : (c : tie.Else1) → not (sound (book (start-1 c))) ≡ false
+tested c = not-of (c .before .arrays-sound .ensures) (c .if1 .left)
 
 past-1 : (c : tie.Else1) → Past 1 (tab (start-1 c))
 unfolding tradeTable
-past-1 c = rw (not-of (c .before .is-sound .ensures) (c .if1 .left))
+past-1 c = rw (tested c)
 
 past-2 : (c : tie.Else2) → Past 2 (tab (start-2 c))
 unfolding tradeTable
@@ -71,21 +83,20 @@ past-7 c = past-6 (c .before .before) ∙ rw (ne-eqb _ _ (c .if7 .left))
 
 past-8 : (c : tie.Else8) → Past 8 (tab (start-8 c))
 unfolding tradeTable
-past-8 c = past-7 (c .before .before .before .before) ∙ rw (← (c .before .has-shortage .ensures), c .if8 .left)
+past-8 c = past-7 (c .before .before) ∙ rw (← (c .before .has-shortage .ensures), c .if8 .left)
 
 -- the seller's lot is one of the book's
 seller : (c : tie.Else5) → In (sellerLot (start-5 c .args .t))
 seller c =
-    let e : tie.Else1 = c .before .before .before .before .before .before .before .before in
-    live-in _ _ (not-of (e .before .is-sound .ensures) (e .if1 .left)) (omega arith) (omega arith)
+    live-in _ _ (tested (c .before .before .before .before .before .before .before .before)) (omega arith) (omega arith)
     (not-of (c .before .is-live .ensures) (c .if5 .left))
 
-is-sound-requires : tie.Need-is-sound-requires
-is-sound-requires c κs = search needs
+arrays-sound-requires : tie.Need-arrays-sound-requires
+arrays-sound-requires c κs = search needs
 
 returns : tie.Need-returns
 unfolding tradeTable
-returns c = rw (not-of (c .before .is-sound .ensures) (c .if1 .taken))
+returns c = rw (not-of (c .before .arrays-sound .ensures) (c .if1 .taken))
 
 returns-2 : tie.Need-returns-2
 unfolding tradeTable
@@ -120,32 +131,30 @@ has-shortage-requires c κs = search needs
 returns-8 : tie.Need-returns-8
 unfolding tradeTable
 returns-8 c =
-    sym
-    (past-7 (c .before .before .before .before)
-    ∙ rw (← (c .before .has-shortage .ensures), c .if8 .taken))
+    sym (past-7 (c .before .before) ∙ rw (← (c .before .has-shortage .ensures), c .if8 .taken))
 
 figure-at-requires : tie.Need-figure-at-requires
-figure-at-requires c κs = seller (c .before .before .before .before .before .before .before .before .before .before)
+figure-at-requires c κs = seller (c .before .before .before .before .before .before)
 
 returns-9 : tie.Need-returns-9
 unfolding tradeTable
 returns-9 c =
     sym
-    (past-8 (c .before .before .before .before .before)
+    (past-8 (c .before .before .before)
     ∙ rw (← (c .before .before .figure-at .ensures), lt-ltb _ _ (c .if9 .taken)))
 
 returns-10 : tie.Need-returns-10
 unfolding tradeTable
 returns-10 c =
     sym
-    (past-8 (c .before .before .before .before .before)
+    (past-8 (c .before .before .before)
     ∙ rw (← (c .before .before .figure-at .ensures), le-ltb _ _ (c .if9 .left)))
 
 pub trade-verdict-spec : {M : Type 1} → statement M
 trade-verdict-spec =
     tie.close
     (tie.spec
-    is-sound-requires
+    arrays-sound-requires
     returns
     returns-2
     returns-3

@@ -1,8 +1,8 @@
 use Rattle.figuring.proofs.BoolLaws.{denied, granted}
 use Rattle.book.specs.Soundness.{sound}
 use borrow.Author.Needs.{needs}
-use Rattle.book.proofs.soundness.is_sound.Statement.{statement}
-use Rattle.book.proofs.soundness.is_sound.Tie as tie
+use Rattle.book.proofs.soundness.arrays_sound.Statement.{statement}
+use Rattle.book.proofs.soundness.arrays_sound.Tie as tie
 
 year-in-range-requires : tie.Need-year-in-range-requires
 year-in-range-requires c κs = search needs
@@ -34,8 +34,8 @@ returns-3 c =
     )
     (c .totals-sound .ensures)
 
-pub is-sound-spec : {M : Type 1} → statement M
-is-sound-spec =
+pub arrays-sound-spec : {M : Type 1} → statement M
+arrays-sound-spec =
     tie.close
     (tie.spec
     year-in-range-requires

@@ -44,7 +44,7 @@ pub fn apply(book: Book, p: Application) -> Posted
         }
     };
     Posted {
-        answer: answer,
+        answer,
         book: after,
     }
 }

@@ -34,14 +34,15 @@ pub fn close(book: Book, year: u64) -> Posted
     ensures { λ r. ⌜ r ≡ posted book (Call.Close year) ⌝ }
 {
     let mut after = book;
-    let answer = match close_verdict(
+    let verdict = close_verdict(
         after.open_year,
         &after.marks,
         &after.parts,
         &after.lots,
         &after.shortages,
         year,
-    ) {
+    );
+    let answer = match verdict {
         Verdict::Refuse(why) => Answer::Refused(why),
         Verdict::Accepted => {
             let nets = net_cells(after);

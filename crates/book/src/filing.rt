@@ -29,14 +29,15 @@ pub fn file(book: Book, f: Filing) -> Posted
 {
     // The one copy of the book, with one exit: copies of its 29 KB are what a posting's time goes into.
     let mut after = book;
-    let answer = match file_verdict(
+    let verdict = file_verdict(
         after.open_year,
         &after.marks,
         &after.parts,
         &after.lots,
         &after.shortages,
         f,
-    ) {
+    );
+    let answer = match verdict {
         Verdict::Refuse(why) => Answer::Refused(why),
         Verdict::Accepted => {
             let standard = grams(standard_for(f.set, f.vehicle_use, f.year));

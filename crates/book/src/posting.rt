@@ -11,8 +11,5 @@ pub fn post(book: Book, call: Call) -> Posted
 {
     let mut own = book;
     let answer = post_in(&mut own, call);
-    Posted {
-        answer: answer,
-        book: own,
-    }
+    Posted { answer, book: own }
 }

@@ -41,7 +41,7 @@ pub fn retire(book: Book, p: Retirement) -> Posted
         }
     };
     Posted {
-        answer: answer,
+        answer,
         book: after,
     }
 }

@@ -44,7 +44,7 @@ pub fn trade(book: Book, t: Trade) -> Posted
         }
     };
     Posted {
-        answer: answer,
+        answer,
         book: after,
     }
 }

@@ -13,6 +13,7 @@ use book::answers::Answer;
 use book::answers::Posted;
 use book::answers::Refusal;
 use book::answers::refusal_number;
+use book::in_place::post_in;
 use book::ledger::Book;
 use book::posting::post;
 use figuring::netting::size_of;
@@ -33,25 +34,14 @@ pub fn answer_line(book: Book, line: &[u8]) -> Posted
     }
 }
 
-pub(crate) fn line_step(book: Book, line: Line) -> Posted
-    ensures { λ p. ⌜ p ≡ postedLine book line ⌝ }
-{
-    match line {
-        Line::NoForm => Posted {
-            answer: Answer::Refused(Refusal::NotAForm),
-            book,
-        },
-        Line::Form(call) => post(book, call),
-    }
-}
-
-// A line that has been read, answered in place.
+// A line that has been read, answered in place. A line that is no form leaves the book untouched.
 pub fn line_in(book: &mut Book, line: Line) -> Answer
     ensures { λ a. ⌜ (a ≡ postedLine (now (book .entry)) line .answer) × (now (book .exit) ≡ postedLine (now (book .entry)) line .book) ⌝ }
 {
-    let p = line_step(*book, line);
-    *book = p.book;
-    p.answer
+    match line {
+        Line::NoForm => Answer::Refused(Refusal::NotAForm),
+        Line::Form(call) => post_in(book, call),
+    }
 }
 
 // Puts the answer to a filing: its part, a negative one with its minus, and its count.

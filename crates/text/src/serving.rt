@@ -47,10 +47,7 @@ pub(crate) fn serve(book: Book, first: Turn, chunk: &[u8], out: &mut [u8]) -> Se
         let answer = line_in(&mut own, line);
         turn = after(turn, answer, chunk, out);
     }
-    Served {
-        book: own,
-        turn: turn,
-    }
+    Served { book: own, turn }
 }
 
 // Puts the answer to the line that has ended, and takes the bytes to the end of the next.

@@ -22,8 +22,8 @@ facts c = closable _ _ (accepted c)
 close-verdict-requires : tie.Need-close-verdict-requires
 close-verdict-requires c κs = search needs
 
-enum-known-why : tie.Need-enum-known-why
-enum-known-why c = search needs
+enum-known-verdict : tie.Need-enum-known-verdict
+enum-known-verdict c = search needs
 
 enum-told : tie.Need-enum-told
 enum-told c = search needs
@@ -37,7 +37,7 @@ add-t18 c = omega (arith, facts (c .before .before .before))
 returns : tie.Need-returns
 unfolding table
 returns c =
-    sym (posted-refused _ _ (sym (c .before .before .before .close-verdict .ensures) ∙ c .before .why .given .1))
+    sym (posted-refused _ _ (sym (c .before .before .before .close-verdict .ensures) ∙ c .before .verdict .given .1))
 
 returns-2 : tie.Need-returns-2
 unfolding table done closed
@@ -50,7 +50,7 @@ close-spec =
     tie.close
     (tie.spec
     close-verdict-requires
-    enum-known-why
+    enum-known-verdict
     enum-told
     net-cells-requires
     add-t18

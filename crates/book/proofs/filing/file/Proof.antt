@@ -41,8 +41,8 @@ storing c = at-cell (c .before .before .before)
 file-verdict-requires : tie.Need-file-verdict-requires
 file-verdict-requires c κs = search needs
 
-enum-known-why : tie.Need-enum-known-why
-enum-known-why c = search needs
+enum-known-verdict : tie.Need-enum-known-verdict
+enum-known-verdict c = search needs
 
 enum-told : tie.Need-enum-told
 enum-told c = search needs
@@ -107,7 +107,7 @@ cast-t23 c =
 returns : tie.Need-returns
 unfolding table
 returns c =
-    sym (posted-refused _ _ (sym (c .before .before .before .file-verdict .ensures) ∙ c .before .why .given .1))
+    sym (posted-refused _ _ (sym (c .before .before .before .file-verdict .ensures) ∙ c .before .verdict .given .1))
 
 returns-2 : tie.Need-returns-2
 returns-2 c =
@@ -130,7 +130,7 @@ file-spec =
     tie.close
     (tie.spec
     file-verdict-requires
-    enum-known-why
+    enum-known-verdict
     enum-told
     standard-for-requires
     grams-requires

@@ -1,7 +1,7 @@
-// What a listing shows of a maker, a set and a year, for any three numbers and any book.
+// What a listing shows of a maker, a set and a year, for any three numbers and any book. The array is lent: a listing asks
+// for each of 768 lots and 768 shortages, and a book by value would be a copy of 29 KB at each.
 ghost use mathlib.Core.Path.{_≡_};
 ghost use Rattle.book.specs.Listing.{lotEntry, shortageEntry, isCellYear};
-use crate::ledger::Book;
 use crate::ledger::MAKERS;
 use crate::ledger::SETS;
 use crate::ledger::figure_at;
@@ -27,39 +27,45 @@ pub enum ShortageEntry {
     NoShortage,
 }
 
-pub fn lot_entry(book: Book, maker: u64, set: u64, vintage: u64) -> LotEntry
-    ensures { λ r. ⌜ r ≡ lotEntry book maker set vintage ⌝ }
+pub fn lot_entry(open_year: u64, lots: &[u64; 768], maker: u64, set: u64, vintage: u64) -> LotEntry
+    ensures { λ r. ⌜ r ≡ lotEntry «open_year» (now (lots .entry)) maker set vintage ⌝ }
 {
     if !is_cell_year(maker, set, vintage) {
         return LotEntry::NoLot;
     }
-    let mg = figure_at(&book.lots, maker, set, vintage);
+    let mg = figure_at(lots, maker, set, vintage);
     if mg == 0 {
         return LotEntry::NoLot;
     }
-    if is_live(book.open_year, vintage) {
+    if is_live(open_year, vintage) {
         return LotEntry::Live(Mg(mg));
     }
-    if is_expired(book.open_year, vintage) {
+    if is_expired(open_year, vintage) {
         return LotEntry::Expired(Mg(mg));
     }
     LotEntry::NoLot
 }
 
-pub fn shortage_entry(book: Book, maker: u64, set: u64, year: u64) -> ShortageEntry
-    ensures { λ r. ⌜ r ≡ shortageEntry book maker set year ⌝ }
+pub fn shortage_entry(
+    open_year: u64,
+    shortages: &[u64; 768],
+    maker: u64,
+    set: u64,
+    year: u64,
+) -> ShortageEntry
+    ensures { λ r. ⌜ r ≡ shortageEntry «open_year» (now (shortages .entry)) maker set year ⌝ }
 {
     if !is_cell_year(maker, set, year) {
         return ShortageEntry::NoShortage;
     }
-    let mg = figure_at(&book.shortages, maker, set, year);
+    let mg = figure_at(shortages, maker, set, year);
     if mg == 0 {
         return ShortageEntry::NoShortage;
     }
-    if is_open(book.open_year, year) {
+    if is_open(open_year, year) {
         return ShortageEntry::Open(Mg(mg));
     }
-    if is_overdue(book.open_year, year) {
+    if is_overdue(open_year, year) {
         return ShortageEntry::Overdue(Mg(mg));
     }
     ShortageEntry::NoShortage

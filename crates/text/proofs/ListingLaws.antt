@@ -37,28 +37,28 @@ module _ (p : List ℕ) (m s y mg : ℕ) (hm : m < 10) (hs : s < 10) (hy : y < 1
   pub entry-room : (at size : ℕ) → at + entryRoom ≤ size → at + length (filled p (m ∷ s ∷ y ∷ mg ∷ 0 ∷ 0 ∷ 0 ∷ 0 ∷ 0 ∷ 0 ∷ 0 ∷ 0 ∷ [])) ≤ size
   entry-room at size h = omega (arith, entry-length, ap length (filled-zeros p (m ∷ s ∷ y ∷ mg ∷ []) 8))
 
-module _ (b : Book) (m s i : ℕ) where
-  pub lot-stands : {entry : LotEntry} {at r : ℕ} {out out′ : List ℕ} → entry ≡ lotEntry b m s (firstYear + i) → Stands (lotText m s (firstYear + i) entry) at out r out′ → Stands (lotLine b m s i) at out r out′
+module _ (o : ℕ) (l : List ℕ) (m s i : ℕ) where
+  pub lot-stands : {entry : LotEntry} {at r : ℕ} {out out′ : List ℕ} → entry ≡ lotEntry o l m s (firstYear + i) → Stands (lotText m s (firstYear + i) entry) at out r out′ → Stands (lotLine o l m s i) at out r out′
   unfolding lotLine
   lot-stands e h = as-text (ap (lotText m s (firstYear + i)) e) h
 
-  pub shortage-stands : {entry : ShortageEntry} {at r : ℕ} {out out′ : List ℕ} → entry ≡ shortageEntry b m s (firstYear + i) → Stands (shortageText m s (firstYear + i) entry) at out r out′ → Stands (shortageLine b m s i) at out r out′
+  pub shortage-stands : {entry : ShortageEntry} {at r : ℕ} {out out′ : List ℕ} → entry ≡ shortageEntry o l m s (firstYear + i) → Stands (shortageText m s (firstYear + i) entry) at out r out′ → Stands (shortageLine o l m s i) at out r out′
   unfolding shortageLine
   shortage-stands e h = as-text (ap (shortageText m s (firstYear + i)) e) h
 
   module _ (hm : m < makers) (hs : s < sets) (hi : i < years) where
-    pub lot-length : length (lotLine b m s i) ≤ entryRoom
+    pub lot-length : length (lotLine o l m s i) ≤ entryRoom
     unfolding lotLine
-    lot-length = go (lotEntry b m s (firstYear + i))
+    lot-length = go (lotEntry o l m s (firstYear + i))
       where
         go : (e : LotEntry) → length (lotText m s (firstYear + i) e) ≤ entryRoom
         go (LotEntry.Live mg) = entry-length _ _ _ _ _ (omega arith) (omega arith) (omega arith) tt
         go (LotEntry.Expired mg) = entry-length _ _ _ _ _ (omega arith) (omega arith) (omega arith) tt
         go LotEntry.NoLot = omega arith
 
-    pub shortage-length : length (shortageLine b m s i) ≤ entryRoom
+    pub shortage-length : length (shortageLine o l m s i) ≤ entryRoom
     unfolding shortageLine
-    shortage-length = go (shortageEntry b m s (firstYear + i))
+    shortage-length = go (shortageEntry o l m s (firstYear + i))
       where
         go : (e : ShortageEntry) → length (shortageText m s (firstYear + i) e) ≤ entryRoom
         go (ShortageEntry.Open mg) = entry-length _ _ _ _ _ (omega arith) (omega arith) (omega arith) tt
@@ -92,12 +92,12 @@ gather-length f m (suc n) h = rw (length-append, suc-mul) (omega (arith, gather-
 
 -- ---- a cell, and a maker
 module _ (b : Book) (m : ℕ) (hm : m < makers) where
-  pub lots-length : (s : ℕ) → s < sets → length (gather years (lotLine b m s)) ≤ years * entryRoom
-  lots-length s hs = gather-length (lotLine b m s) entryRoom years (λ i hi. lot-length b m s i hm hs hi)
+  pub lots-length : (s : ℕ) → s < sets → length (gather years (lotLine (b .«open_year») (b .lots) m s)) ≤ years * entryRoom
+  lots-length s hs = gather-length (lotLine (b .«open_year») (b .lots) m s) entryRoom years (λ i hi. lot-length _ _ m s i hm hs hi)
 
   pub cell-length : (s : ℕ) → s < sets → length (cellText b m s) ≤ years * entryRoom + years * entryRoom
   unfolding cellText
-  cell-length s hs = rw length-append (omega (arith, lots-length s hs, gather-length (shortageLine b m s) entryRoom years (λ i hi. shortage-length b m s i hm hs hi)))
+  cell-length s hs = rw length-append (omega (arith, lots-length s hs, gather-length (shortageLine (b .«open_year») (b .shortages) m s) entryRoom years (λ i hi. shortage-length _ _ m s i hm hs hi)))
 
   pub maker-length : length (makerText b m) ≤ sets * (years * entryRoom + years * entryRoom)
   unfolding makerText

@@ -35,15 +35,17 @@ unfoldable pub gather : ℕ → (ℕ → List ℕ) → List ℕ
 gather zero f = []
 gather (suc n) f = gather n f ++ f n
 
--- i counts the years from the first
-unfoldable pub lotLine : Book → ℕ → ℕ → ℕ → List ℕ
-lotLine b m s i = lotText m s (firstYear + i) (lotEntry b m s (firstYear + i))
+-- of the open year and the book's lots; i counts the years from the first
+unfoldable pub lotLine : ℕ → List ℕ → ℕ → ℕ → ℕ → List ℕ
+lotLine o l m s i = lotText m s (firstYear + i) (lotEntry o l m s (firstYear + i))
 
-unfoldable pub shortageLine : Book → ℕ → ℕ → ℕ → List ℕ
-shortageLine b m s i = shortageText m s (firstYear + i) (shortageEntry b m s (firstYear + i))
+-- of the open year and the book's shortages
+unfoldable pub shortageLine : ℕ → List ℕ → ℕ → ℕ → ℕ → List ℕ
+shortageLine o l m s i = shortageText m s (firstYear + i) (shortageEntry o l m s (firstYear + i))
 
 unfoldable pub cellText : Book → ℕ → ℕ → List ℕ
-cellText b m s = gather years (lotLine b m s) ++ gather years (shortageLine b m s)
+cellText b m s =
+    gather years (lotLine (b .«open_year») (b .lots) m s) ++ gather years (shortageLine (b .«open_year») (b .shortages) m s)
 
 unfoldable pub makerText : Book → ℕ → List ℕ
 makerText b m = gather sets (cellText b m)

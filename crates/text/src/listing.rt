@@ -54,32 +54,46 @@ fn put_cell(out: &mut [u8], at: usize, book: Book, maker: u64, set: u64) -> usiz
     requires { ⌜ (at + (years * entryRoom + years * entryRoom) ≤ length (now out)) × ((maker < makers) × (set < sets)) ⌝ }
     ensures { λ r. ⌜ Stands (cellText book maker set) at (now (out .entry)) r (now (out .exit)) ⌝ }
 {
-    let w = put_lots(out, at, book, maker, set);
-    put_shortages(out, w, book, maker, set)
+    let w = put_lots(out, at, book.open_year, &book.lots, maker, set);
+    put_shortages(out, w, book.open_year, &book.shortages, maker, set)
 }
 
-fn put_lots(out: &mut [u8], at: usize, book: Book, maker: u64, set: u64) -> usize
+fn put_lots(
+    out: &mut [u8],
+    at: usize,
+    open_year: u64,
+    lots: &[u64; 768],
+    maker: u64,
+    set: u64,
+) -> usize
     requires { ⌜ (at + years * entryRoom ≤ length (now out)) × ((maker < makers) × (set < sets)) ⌝ }
-    ensures { λ r. ⌜ Stands (gather years (lotLine book maker set)) at (now (out .entry)) r (now (out .exit)) ⌝ }
+    ensures { λ r. ⌜ Stands (gather years (lotLine «open_year» (now (lots .entry)) maker set)) at (now (out .entry)) r (now (out .exit)) ⌝ }
 {
     let mut w = at;
     let mut i: u64 = 0;
     while i < YEARS {
-        let entry = lot_entry(book, maker, set, FIRST_YEAR + i);
+        let entry = lot_entry(open_year, lots, maker, set, FIRST_YEAR + i);
         w = put_lot(out, w, maker, set, FIRST_YEAR + i, entry);
         i += 1;
     }
     w
 }
 
-fn put_shortages(out: &mut [u8], at: usize, book: Book, maker: u64, set: u64) -> usize
+fn put_shortages(
+    out: &mut [u8],
+    at: usize,
+    open_year: u64,
+    shortages: &[u64; 768],
+    maker: u64,
+    set: u64,
+) -> usize
     requires { ⌜ (at + years * entryRoom ≤ length (now out)) × ((maker < makers) × (set < sets)) ⌝ }
-    ensures { λ r. ⌜ Stands (gather years (shortageLine book maker set)) at (now (out .entry)) r (now (out .exit)) ⌝ }
+    ensures { λ r. ⌜ Stands (gather years (shortageLine «open_year» (now (shortages .entry)) maker set)) at (now (out .entry)) r (now (out .exit)) ⌝ }
 {
     let mut w = at;
     let mut i: u64 = 0;
     while i < YEARS {
-        let entry = shortage_entry(book, maker, set, FIRST_YEAR + i);
+        let entry = shortage_entry(open_year, shortages, maker, set, FIRST_YEAR + i);
         w = put_shortage(out, w, maker, set, FIRST_YEAR + i, entry);
         i += 1;
     }

@@ -1,11 +1,12 @@
 //! `compare PROGRAM N [FIRST-SEED]`: holds PROGRAM against this library on N
 //! generated sessions and stops at the first difference.
 
+use second::asked::Asked;
 use second::generate::{session, Kind};
 use second::session::Session;
 use second::text::Lines;
 use std::convert::Infallible;
-use std::ffi::{OsStr, OsString};
+use std::ffi::OsStr;
 use std::io::{self, Read, Write};
 use std::process::{ChildStdin, Command, ExitCode, ExitStatus, Stdio};
 use std::thread;
@@ -14,12 +15,16 @@ use std::time::Instant;
 const PROGRESS_EVERY: u64 = 25;
 
 fn main() -> ExitCode {
-    let arguments: Vec<OsString> = std::env::args_os().skip(1).collect();
-    let Some((program, count, first_seed)) = asked(&arguments) else {
+    let Some(Asked {
+        program,
+        count,
+        seed,
+    }) = Asked::by_arguments()
+    else {
         eprintln!("usage: compare PROGRAM N [FIRST-SEED]");
         return ExitCode::from(2);
     };
-    match compare(program, count, first_seed) {
+    match compare(&program, count, seed) {
         Ok(()) => {
             println!("{count} sessions compared, 0 differences");
             ExitCode::SUCCESS
@@ -28,15 +33,6 @@ fn main() -> ExitCode {
             println!("{difference}");
             ExitCode::FAILURE
         }
-    }
-}
-
-fn asked(arguments: &[OsString]) -> Option<(&OsStr, u64, u64)> {
-    let number = |argument: &OsString| argument.to_str()?.parse().ok();
-    match arguments {
-        [program, count] => Some((program, number(count)?, 1)),
-        [program, count, seed] => Some((program, number(count)?, number(seed)?)),
-        _ => None,
     }
 }
 

@@ -24,7 +24,7 @@ of-book :
 of-book c = granted (c .before .is-cell-year .ensures) (c .if1 .left)
 
 figure-at-requires : tie.Need-figure-at-requires
-figure-at-requires c κs = cell-year _ _ _ (of-book (c .before .before))
+figure-at-requires c κs = cell-year _ _ _ (of-book c)
 
 returns-2 : tie.Need-returns-2
 unfolding shortageEntry
@@ -35,9 +35,9 @@ is-open-requires c κs = search needs
 
 above :
     (c : tie.Else2) →
-    let a = c .before .before .before .before .before .before .args in
-    (isCellYear (a .maker) (a .set) (a .year) && ltb 0 (at (a .t1 .shortages) (key (a .maker) (a .set) (a .year)))) ≡ true
-above c = shown _ _ _ _ (of-book (c .before .before .before .before)) (c .before .figure-at .ensures) (c .if2 .left)
+    let a = c .before .before .before .before .args in
+    (isCellYear (a .maker) (a .set) (a .year) && ltb 0 (at (a .shortages .now) (key (a .maker) (a .set) (a .year)))) ≡ true
+above c = shown _ _ _ _ (of-book (c .before .before)) (c .before .figure-at .ensures) (c .if2 .left)
 
 returns-3 : tie.Need-returns-3
 unfolding shortageEntry

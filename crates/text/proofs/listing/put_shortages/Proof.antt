@@ -7,10 +7,10 @@ use Rattle.text.proofs.listing.put_shortages.Statement.{statement}
 use Rattle.text.proofs.listing.put_shortages.Tie as tie
 
 abbrev Inv-loop : tie.InvT-loop
-Inv-loop out₀ at book maker set w₀ i₀ out w i = (i ≤ years) × Gathered (shortageLine book maker set) entryRoom out₀ out at w i
+Inv-loop out₀ at open-year shortages maker set w₀ i₀ out w i = (i ≤ years) × Gathered (shortageLine open-year shortages maker set) entryRoom out₀ out at w i
 
 abbrev μ-loop : tie.MeasureT-loop
-μ-loop out₀ at book maker set w₀ i₀ out w i = years - i
+μ-loop out₀ at open-year shortages maker set w₀ i₀ out w i = years - i
 
 loop-holds : tie.Need-loop-holds Inv-loop μ-loop
 loop-holds c = (omega arith, none-yet)
@@ -34,7 +34,7 @@ loop-less : tie.Need-loop-less Inv-loop μ-loop
 loop-less c = omega arith
 
 loop-again : tie.Need-loop-again Inv-loop μ-loop
-loop-again c = (omega arith, one-more (c .before .before .before .before .before .before .loop .inv .1) (shortage-length _ _ _ _ (c .before .before .before .before .before .before .before .before .pre .1 .0) (c .before .before .before .before .before .before .before .before .pre .1 .1) (c .before .before .before .before .before .loop-test .taken)) (shortage-stands _ _ _ _ (c .before .before .before .before .shortage-entry .ensures) (c .before .before .put-shortage .ensures)))
+loop-again c = (omega arith, one-more (c .before .before .before .before .before .before .loop .inv .1) (shortage-length _ _ _ _ _ (c .before .before .before .before .before .before .before .before .pre .1 .0) (c .before .before .before .before .before .before .before .before .pre .1 .1) (c .before .before .before .before .before .loop-test .taken)) (shortage-stands _ _ _ _ _ (c .before .before .before .before .shortage-entry .ensures) (c .before .before .put-shortage .ensures)))
 
 same-length : tie.Need-same-length Inv-loop μ-loop
 same-length c = out-long (c .before .loop .inv .1)

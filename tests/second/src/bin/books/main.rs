@@ -12,11 +12,12 @@ mod made;
 
 use calls::{call_of, call_on, kind_of};
 use made::Make;
+use second::asked::Asked;
 use second::book::{Book, CELLS, FAMILIES};
 use second::figuring::{FIRST_YEAR, YEARS};
 use second::generate::rng::Rng;
 use second::postings::{post, Answer, Results};
-use std::ffi::{OsStr, OsString};
+use std::ffi::OsStr;
 use std::io::{BufReader, BufWriter, Read, Write};
 use std::process::{ChildStdin, Command, ExitCode, Stdio};
 use std::sync::mpsc::{sync_channel, Receiver, SyncSender};
@@ -33,12 +34,16 @@ const BYTES: usize = 8;
 const AHEAD: usize = 16;
 
 fn main() -> ExitCode {
-    let arguments: Vec<OsString> = std::env::args_os().skip(1).collect();
-    let Some((program, count, seed)) = asked(&arguments) else {
+    let Some(Asked {
+        program,
+        count,
+        seed,
+    }) = Asked::by_arguments()
+    else {
         eprintln!("usage: books PROGRAM N [SEED]");
         return ExitCode::from(2);
     };
-    match compare(program, count, seed) {
+    match compare(&program, count, seed) {
         Ok(tally) => {
             eprintln!("{}", tally.by_kind());
             println!(
@@ -51,15 +56,6 @@ fn main() -> ExitCode {
             println!("{difference}");
             ExitCode::FAILURE
         }
-    }
-}
-
-fn asked(arguments: &[OsString]) -> Option<(&OsStr, u64, u64)> {
-    let number = |argument: &OsString| argument.to_str()?.parse().ok();
-    match arguments {
-        [program, count] => Some((program, number(count)?, 1)),
-        [program, count, seed] => Some((program, number(count)?, number(seed)?)),
-        _ => None,
     }
 }
 

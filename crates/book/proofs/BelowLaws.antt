@@ -1,14 +1,14 @@
 -- Laws of the tests and sums over the numbers below a bound: what a counted loop needs at each turn and at its end, and
 -- what the theorems need of a sum of which one term changed.
 use Prim.Native.Nat.{ℕ, zero, suc, _+_, _*_, _-_, _<_, _≤_}
-use mathlib.Core.Bool.{Bool, true, false, not, _&&_, _||_, and-false, false≢true}
+use mathlib.Core.Bool.{Bool, true, false, _&&_, _||_, and-false, false≢true}
 use mathlib.Core.Logic.{⊎-elim, _⊎_, inl, inr, _≢_}
 use mathlib.Core.Path.{_≡_, refl, sym, _∙_, ap, ap₂}
 use native.Mathlib.Omega.{arith}
 use native.Mathlib.Numerals.{add-one}
 use native.Mathlib.Nat.{le-refl, suc-mul}
 use native.Mathlib.Decide.{ℕ-discrete}
-use lib.IntN.{ℤ, pos, negsuc, natAbs, _+ℤ_, +ℤ-assoc, +ℤ-comm, +ℤ-idl, +ℤ-idr}
+use lib.IntN.{ℤ, pos, natAbs, _+ℤ_, +ℤ-assoc, +ℤ-comm}
 use Rattle.figuring.proofs.SignedLaws.{abs-add}
 use Rattle.book.specs.Below.{allBelow, anyBelow, sumBelow, sumBelowℤ, countBelow, oneIf}
 

@@ -1,4 +1,4 @@
--- A dispatcher: `fn f(book: &mut Book, x: X) -> Answer { match x { V(y) => g(book, y), .. } }`, where each g is a thin posting function. Here is what the walks of such functions share.
+-- A dispatcher: `fn f(book: &mut Book, x: X) -> Answer { match x { V(y) => g(book, y), .. } }`, where each g is a thin posting function, or a dispatcher itself. Here is what the walks of such functions share.
 --     calls-given  the call rule: g takes the book at f's own lifetime, share and name, since f has no use of it after the call. So the book that g leaves is the book that f leaves
 --     arm-posts    an arm that copies its payload, borrows the book again and calls g.        untouched    an arm that does not touch the book
 --     exits        how f ends, with its answer and its last book.        meets    f meets its contract, from a walk of its MIR that begins at `Before`

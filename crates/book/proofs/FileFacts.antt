@@ -7,10 +7,9 @@ use borrow.Author.Tests.{leb-false, eqb-true, not-false}
 use lib.Dec.{eqb}
 use lib.ListN.{getD}
 use Rattle.figuring.specs.Years.{lastYear}
-use Rattle.figuring.specs.Standards.{standardFor, gramsOf, isAbsent}
+use Rattle.figuring.specs.Standards.{standardFor, isAbsent}
 use Rattle.figuring.specs.Parts.{withinLimits, partOf, familyPart}
 use Rattle.figuring.specs.declared.units.Part.{Part}
-use Rattle.figuring.specs.declared.standards.Standard.{Standard}
 use Rattle.figuring.specs.declared.parts.FamilyPart.{FamilyPart}
 use Rattle.figuring.specs.declared.parts.FamilyPart.the-variants.{Figured, OutOfLimits}
 use Rattle.figuring.proofs.PartLaws.{figured}
@@ -19,7 +18,7 @@ use Rattle.book.specs.Ledger.{marked}
 use Rattle.book.specs.Soundness.{sound}
 use Rattle.book.specs.Refusals.{firstRefusal}
 use Rattle.book.specs.Rules.{fileTable}
-use Rattle.book.specs.Postings.{partFor, filingCell}
+use Rattle.book.specs.Postings.{filingCell}
 use Rattle.book.specs.declared.ledger.Book.{Book}
 use Rattle.book.specs.declared.kinds.Filing.{Filing}
 use Rattle.book.specs.declared.answers.Verdict.the-variants.{Accepted}
@@ -53,14 +52,6 @@ fileable b f e =
       limits = not-false (withinLimits (f .fcl) (f .cf) (f .volume) (f .life)) (search);
       unmarked = search;
     }
-
--- a filing's part, from the standard and its grams as the code asks for them
-pub part-for :
-    (f : Filing) {s : Standard} {g : ℕ}
-    → s ≡ standardFor (f .set) (f .«vehicle_use») (f .year) → g ≡ gramsOf s
-    → partOf g (f .fcl) (f .cf) (f .volume) (f .life) ≡ partFor f
-unfolding partFor
-part-for f e d = rw (d, e)
 
 -- what family_part gives a filing that is within its limits
 module _ (s fcl cf volume life : ℕ) (h : withinLimits fcl cf volume life ≡ true) where

@@ -10,11 +10,9 @@ use mir.Syntax.{Name, Ty, Fn, named, mut, tyRef, tyInt, w64, local, valueLocal, 
 use mir.Val.{Val, WT, hasTy, vint, vptr}
 use base.Logic.{SProp, ent, sep, emp, via, fst∗, snd∗, exE, id⊢}
 use base.Fml.{GName, Lft, Share, ftrue, flft, fobs, fbor, fat}
-use prog.Memory.{Memory}
-use prog.Routine.{Routine}
 use prog.Wp.{Heap, Calls, Loops, WpFn, Tables}
 use ghost.Atoms.{Atoms, sem}
-use contract.Monad.{Fun, fact, top}
+use contract.Monad.{fact}
 use types.Kit.{Given, ‵, raw, some, later, _⊛_, _$_, _∵_, !, qed, by, move, keep, drop, use0, use1, split, join, pick, rewrite, fsplit, fsplit3, fjoin, fjoin3, feqI, suffices, frame, await, done}
 use types.Run.{look, init, look-raw, store-raw, forget, stop, hop, fld, from, load, of-opd, and-then, no-more, assigns, land, returns, enter, alloc1, alloc0, params1, pass1, pass0, free1, free0}
 use types.Part.{whole, sub, look-in}
@@ -26,7 +24,7 @@ use denote.Memory.{mem, pointee}
 use denote.Plain.{uint-tells, uint-makes, uint-lawful}
 use denote.Builtin.{u64, RefMutOf}
 use denote.Ref.{RefT, MutRef, ptr-vals, mut-tells, now}
-use denote.Signature.{Signature, plain}
+use denote.Signature.{plain}
 use denote.Steps.{only, opens, closes, owned, peeks, heard, nothing}
 use denote.Struct.Declared as SD
 use denote.Struct.Struct as SS
@@ -37,14 +35,13 @@ use denote.Struct.Steps.{spelt}
 use denote.Struct.Laws as LL
 use denote.Enum.Laws as EL
 use denote.Triple.Entry.{onEntry}
-use denote.Triple.Spec.{Meets, Spec, tripleOf}
+use denote.Triple.Spec.{Meets, tripleOf}
 use denote.Triple.Statement.{Contract, Triple}
 use denote.Triple.Call.{calls-at}
 use denote.Triple.Clauses.{Ended, Clauses, ensured, lasts, closing}
 use denote.Triple.Walked.{says, Stays, stay-ref, stay-dropped, walkOf, goes-dropped, goes-ref, Walks, ends-at, walked, walk-meets}
 use denote.Exit.{Exit, unchanged, yes, Last, left}
 use Rattle.book.specs.declared.ledger.Book.{Book}
-use Rattle.book.specs.declared.answers.Answer.{Answer}
 use Rattle.book.specs.declared.answers.Posted.{Posted}
 use Rattle.book.proofs.ledger.Book as B
 use Rattle.book.proofs.ledger.Book.Laws as B′

@@ -1,17 +1,17 @@
 -- Laws of keys and places: what stands at a key after a lot or shortage was lowered or raised, after a close, and what a
 -- cell's parts add up to after one was stored.
-use mathlib.Core.Bool.{Bool, true, false, not, _&&_, _||_}
-use mathlib.Core.List.{List, [], _∷_}
-use mathlib.Core.Path.{_≡_, refl, sym, _∙_, ap, subst}
-use mathlib.Core.Logic.{_≢_, _⊎_, inl, inr, ⊎-elim}
+use mathlib.Core.Bool.{Bool, true, false}
+use mathlib.Core.List.{List}
+use mathlib.Core.Path.{_≡_, refl, sym, _∙_, ap}
+use mathlib.Core.Logic.{_≢_}
 use Prim.Native.Nat.{ℕ, zero, suc, _+_, _-_, _*_, _≤_, _<_}
 use native.Mathlib.Omega.{arith}
 use native.Mathlib.Decide.{ℕ-discrete}
-use borrow.Author.Tests.{ltb-true, ltb-false, leb-true, leb-false, eqb-true, eqb-false, not-true, not-false, eq-eqb, ne-eqb}
-use lib.Dec.{ltb, leb, eqb}
+use borrow.Author.Tests.{eqb-true, eq-eqb, ne-eqb}
+use lib.Dec.{eqb}
 use lib.ListN.{getD, set, replicate, length, length-set, getD-replicate}
 use lib.Seq.{getD-set-same, getD-set-other}
-use lib.IntN.{ℤ, pos, negsuc, _+ℤ_, +ℤ-assoc, +ℤ-comm, +ℤ-idl, +ℤ-idr}
+use lib.IntN.{ℤ, pos, _+ℤ_, +ℤ-idr}
 use Rattle.figuring.specs.Years.{firstYear, lastYear}
 use Rattle.figuring.proofs.BoolLaws.{both}
 use Rattle.book.specs.Sizes.{sets, cells, families, years, places, allParts}
@@ -24,9 +24,6 @@ use Rattle.book.proofs.BelowLaws.{sumℤ-same, sumℤ-zero, sumℤ-chan
 -- ── keys
 pub apart : (a b n m : ℕ) → a < years → b < years → n * years + a ≡ m * years + b → (n ≡ m) × (a ≡ b)
 apart a b n m ha hb e = (omega arith, omega arith)
-
-pub apart4 : (a b n m : ℕ) → a < sets → b < sets → n * sets + a ≡ m * sets + b → (n ≡ m) × (a ≡ b)
-apart4 a b n m ha hb e = (omega arith, omega arith)
 
 -- two keys in range are the same key or have other indices
 same-false : (k j : Key) → In k → In j → sameKey k j ≡ false → place j ≢ place k

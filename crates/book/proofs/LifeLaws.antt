@@ -1,16 +1,14 @@
 -- Laws of lots and shortages in time: the code's difference against the rule's sum, and what a test that holds says.
-use Prim.Native.Nat.{ℕ, _+_, _-_, _*_, _≤_, _<_}
+use Prim.Native.Nat.{ℕ, _+_, _-_, _≤_, _<_}
 use mathlib.Core.Bool.{true, false, not, _&&_}
 use mathlib.Core.List.{List}
-use mathlib.Core.Path.{_≡_, sym, _∙_, ap}
+use mathlib.Core.Path.{_≡_, sym, _∙_}
 use native.Mathlib.Omega.{arith}
 use native.Mathlib.Decide.{decLe}
 use borrow.Author.Tests.{ltb-true, leb-true, not-false, lt-ltb, le-ltb, le-leb, lt-leb}
 use lib.Dec.{ltb, leb}
-use lib.ListN.{getD}
 use Rattle.figuring.specs.Years.{firstYear}
 use Rattle.figuring.proofs.BoolLaws.{both}
-use Rattle.book.specs.Sizes.{sets, years}
 use Rattle.book.specs.Ledger.{key, In, at}
 use Rattle.book.specs.Life.{closedYear, live, openShort}
 use Rattle.book.specs.Listing.{isCellYear}

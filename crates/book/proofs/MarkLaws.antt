@@ -1,14 +1,14 @@
 -- Setting a family's bit.
-use Prim.Native.Nat.{ℕ, zero, suc, _+_, _*_, _-_, _/_, _%_, _^_, _<_, _≤_}
-use mathlib.Core.Bool.{Bool, true, false}
+use Prim.Native.Nat.{ℕ, zero, suc, _+_, _*_, _-_, _/_, _%_, _^_, _<_}
+use mathlib.Core.Bool.{true, false}
 use mathlib.Core.Path.{_≡_, refl, sym, _∙_, ap, ap₂}
 use native.Mathlib.Omega.{arith}
 use native.Mathlib.Nat.{one-mul, add-zero, pow-suc, div-eq-of-lt, mod-lt}
 use native.Mathlib.Decide.{decLt}
-use borrow.Author.Tests.{eqb-false, eqb-true}
+use borrow.Author.Tests.{eqb-false}
 use lib.Dec.{eqb}
-use lib.Bits.{bitOr, or-shr, or-mod, or-zero-r, or-step, or-block}
-use lib.Pow.{pow-pos, pow-lt, pow-add, shl-shr, split, high, low}
+use lib.Bits.{bitOr, or-shr, or-mod, or-zero-r, or-block}
+use lib.Pow.{pow-pos, pow-lt, pow-add, shl-shr, split}
 use lib.Count.{ones, ones-cat, ones-step}
 use Rattle.book.specs.Ledger.{marked, withMark, filedIn}
 

@@ -2,7 +2,7 @@
 -- that it begins with. A fresh book agrees with accounts at zero.
 -- What an accepted call says comes from the records of FileFacts, CloseFacts and MoveFacts. Nothing here looks into a table,
 -- the figuring, the tests of soundness and life, or the limits.
-use Prim.Native.Nat.{ℕ, _+_, _≤_, _<_}
+use Prim.Native.Nat.{ℕ, _+_}
 use mathlib.Core.Bool.{true}
 use mathlib.Core.List.{List, [], _∷_, _++_}
 use mathlib.Core.Path.{_≡_, refl, sym, ap}

@@ -1,15 +1,13 @@
 -- What a sound book is, as facts: `sound b ≡ true` says exactly what the record `Sound b` says.
-use mathlib.Core.Bool.{Bool, true, false, not, _&&_, _||_}
+use mathlib.Core.Bool.{Bool, true, false, _||_}
 use mathlib.Core.Path.{_≡_, refl, sym, _∙_, ap}
 use Prim.Native.Nat.{ℕ, _+_, _-_, _*_, _/_, _%_, _≤_, _<_}
 use native.Mathlib.Omega.{arith}
-use native.Mathlib.Nat.{le-trans}
-use native.Mathlib.Decide.{decLt}
-use borrow.Author.Tests.{ltb-true, ltb-false, leb-true, leb-false, eqb-true, eqb-false, not-false, le-ltb, lt-ltb, le-leb, eq-eqb}
+use borrow.Author.Tests.{ltb-false, leb-true, eqb-true, le-ltb, le-leb, eq-eqb}
 use lib.Dec.{ltb, leb, eqb}
 use lib.ListN.{getD}
 use lib.IntN.{ℤ, pos, negsuc, natAbs}
-use Rattle.figuring.specs.Years.{firstYear, lastYear}
+use Rattle.figuring.specs.Years.{firstYear}
 use Rattle.figuring.specs.Parts.{partMost}
 use Rattle.figuring.proofs.BoolLaws.{both}
 use Rattle.book.specs.Sizes.{makers, sets, cells, families, years, allClosed, shortageMost, lotsMost}
@@ -17,7 +15,7 @@ use Rattle.book.specs.Below.{allBelow, sumBelow}
 use Rattle.book.specs.Ledger.{Key, key, In, at, cell, marked, partAt}
 use Rattle.book.specs.Soundness.{sound, yearInRange, cellsSound, makerSound, cellSound, familySound, partSound, yearSound, figuresSound, totalsSound, setSound, totalSound, lotOf}
 use Rattle.book.specs.declared.ledger.Book.{Book}
-use Rattle.book.proofs.BelowLaws.{all-at, all-of, and-intro, or-true, sum-at}
+use Rattle.book.proofs.BelowLaws.{all-at, all-of, and-intro, sum-at}
 
 pub record Sound (b : Book) : Type 0 where
   pub low : firstYear ≤ b .«open_year»

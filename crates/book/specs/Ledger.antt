@@ -13,7 +13,7 @@ use Rattle.book.specs.Sizes.{makers, sets, families, years}
 use Rattle.book.specs.Below.{sumBelowℤ}
 use Rattle.book.specs.declared.ledger.Book.{Book}
 
--- the book of an open year and its four arrays: of one whose arrays are lent
+-- the book that an open year and four arrays make: contracts speak of it where a book's arrays are lent
 abbrev pub bookOf : ℕ → List ℕ → List ℤ → List ℕ → List ℕ → Book
 bookOf y m p l s = record { «open_year» = y; marks = m; parts = p; lots = l; shortages = s }
 

@@ -18,7 +18,7 @@ abbrev pub lotIf : Bool → LotEntry → LotEntry → LotEntry
 lotIf true a b = a
 lotIf false a b = b
 
--- of the open year and the book's lots
+-- what is shown of a lot: o is the open year, l the book's lots
 unfoldable pub lotEntry : ℕ → List ℕ → ℕ → ℕ → ℕ → LotEntry
 lotEntry o l m s v =
     let mg = at l (key m s v) in
@@ -31,7 +31,7 @@ abbrev pub shortageIf : Bool → ShortageEntry → ShortageEntry → ShortageEnt
 shortageIf true a b = a
 shortageIf false a b = b
 
--- of the open year and the book's shortages
+-- what is shown of a shortage: o is the open year, l the book's shortages
 unfoldable pub shortageEntry : ℕ → List ℕ → ℕ → ℕ → ℕ → ShortageEntry
 shortageEntry o l m s y =
     let mg = at l (key m s y) in

@@ -1,6 +1,5 @@
 -- Document 01, "Postings": what each accepted call does to the book, and what it returns.
-use Prim.Native.Nat.{ℕ, zero, suc, _+_, _-_, _*_, _%_}
-use mathlib.Core.Bool.{Bool}
+use Prim.Native.Nat.{ℕ, zero, suc, _+_, _-_, _*_}
 use mathlib.Core.List.{List}
 use lib.Dec.{ltb}
 use lib.ListN.{getD, set, replicate}
@@ -9,7 +8,7 @@ use Rattle.figuring.specs.Years.{firstYear}
 use Rattle.figuring.specs.Standards.{standardFor, gramsOf}
 use Rattle.figuring.specs.Parts.{partOf}
 use Rattle.figuring.specs.Netting.{netOf, earnedOf, shortfallOf}
-use Rattle.book.specs.Sizes.{sets, cells, families, years, places, allParts}
+use Rattle.book.specs.Sizes.{cells, families, years, places, allParts}
 use Rattle.book.specs.Below.{countBelow}
 use Rattle.book.specs.Ledger.{Key, key, cell, at, lower, raise, withMark, filedIn, cellSum}
 use Rattle.book.specs.declared.ledger.Book.{Book}

@@ -1,5 +1,7 @@
 // File: sets a family's mark and part in the open year.
 ghost use mathlib.Core.Path.{_≡_};
+ghost use Rattle.figuring.specs.Parts.{familyPart};
+ghost use Rattle.figuring.specs.Standards.{standardFor, gramsOf};
 ghost use Rattle.book.specs.Ledger.{bookOf};
 ghost use Rattle.book.specs.Refusals.{firstRefusal};
 ghost use Rattle.book.specs.Rules.{posted, fileTable};
@@ -27,7 +29,6 @@ use figuring::standards::standard_for;
 pub fn file(book: Book, f: Filing) -> Posted
     ensures { λ r. ⌜ r ≡ posted book (Call.File f) ⌝ }
 {
-    // The one copy of the book, with one exit: copies of its 29 KB are what a posting's time goes into.
     let mut after = book;
     let verdict = file_verdict(
         after.open_year,
@@ -39,27 +40,32 @@ pub fn file(book: Book, f: Filing) -> Posted
     );
     let answer = match verdict {
         Verdict::Refuse(why) => Answer::Refused(why),
-        Verdict::Accepted => {
-            let standard = grams(standard_for(f.set, f.vehicle_use, f.year));
-            match family_part(standard, f.fcl, f.cf, f.volume, f.life) {
-                FamilyPart::OutOfLimits => Answer::Refused(Refusal::OutOfLimits),
+        Verdict::Accepted => match part_of(f) {
+            FamilyPart::OutOfLimits => Answer::Refused(Refusal::OutOfLimits),
+            FamilyPart::Figured(part) => {
+                let cell = f.maker * SETS + f.set;
+                let family = f.family;
+                let mark = with_bit(after.marks[cell as usize], family);
+                let figure = part.0;
+                after.marks[cell as usize] = mark;
+                after.parts[(cell * FAMILIES + family) as usize] = figure;
                 // The count is the number of ones in the mark.
-                FamilyPart::Figured(part) => {
-                    let cell = f.maker * SETS + f.set;
-                    let family = f.family;
-                    let mark = with_bit(after.marks[cell as usize], family);
-                    let figure = part.0;
-                    after.marks[cell as usize] = mark;
-                    after.parts[(cell * FAMILIES + family) as usize] = figure;
-                    Answer::Filed(part, u64::count_ones(mark) as u64)
-                }
+                Answer::Filed(part, u64::count_ones(mark) as u64)
             }
-        }
+        },
     };
     Posted {
         answer,
         book: after,
     }
+}
+
+// A filing's part, from its standard; out of limits where document 01 says so.
+fn part_of(f: Filing) -> FamilyPart
+    ensures { λ r. ⌜ r ≡ familyPart (gramsOf (standardFor (f .set) (f .«vehicle_use») (f .year))) (f .fcl) (f .cf) (f .volume) (f .life) ⌝ }
+{
+    let standard = grams(standard_for(f.set, f.vehicle_use, f.year));
+    family_part(standard, f.fcl, f.cf, f.volume, f.life)
 }
 
 fn file_verdict<'a>(

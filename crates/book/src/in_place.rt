@@ -1,5 +1,6 @@
 // "The terminal owns one book and posts to it in place": thin functions that take the book by reference, call the proved
-// by-value step and store the result back. A refusal leaves the book exactly as it was.
+// by-value step and store the result back; `post_in` passes the book on to the call's own. A refusal leaves the book exactly
+// as it was.
 ghost use mathlib.Core.Path.{_≡_};
 ghost use Rattle.book.specs.Rules.{posted};
 ghost use Rattle.book.specs.declared.kinds.Call.{Call};

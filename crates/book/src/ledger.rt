@@ -2,9 +2,8 @@
 // Mg. Part and Mg are the types of every call's results.
 // A copy of it is 29 KB. So a step makes one copy, works on that and has one exit, and its verdict is lent the arrays.
 ghost use mathlib.Core.Path.{_≡_};
-ghost use Prim.Native.Nat.{ℕ, _+_, _*_, _<_, _≤_};
-ghost use Rattle.figuring.specs.Years.{firstYear, lastYear};
-ghost use Rattle.book.specs.Sizes.{makers, sets, families, places};
+ghost use Prim.Native.Nat.{_+_, _*_, _<_};
+ghost use Rattle.book.specs.Sizes.{families, places};
 ghost use Rattle.book.specs.Ledger.{key, In, place, at, marked, withMark};
 ghost use Rattle.book.specs.Postings.{freshBook};
 use figuring::years::FIRST_YEAR;

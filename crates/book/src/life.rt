@@ -1,6 +1,6 @@
 // Live, expired, open, overdue: for any two years, with no sum that could wrap.
 ghost use mathlib.Core.Path.{_≡_};
-ghost use Prim.Native.Nat.{ℕ, _<_};
+ghost use Prim.Native.Nat.{_<_};
 ghost use Rattle.book.specs.Sizes.{makers, sets};
 ghost use Rattle.book.specs.Life.{live, expired, openShort, overdue, closedYear, hasShortage};
 use crate::ledger::SETS;

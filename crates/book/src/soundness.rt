@@ -1,9 +1,9 @@
 // Soundness, decided for any book whatever.
 ghost use mathlib.Core.Path.{_≡_};
-ghost use Prim.Native.Nat.{ℕ, _<_};
-ghost use Rattle.book.specs.Sizes.{sets, families, years};
+ghost use Prim.Native.Nat.{_<_};
+ghost use Rattle.book.specs.Sizes.{families};
 ghost use Rattle.book.specs.Ledger.{bookOf};
-ghost use Rattle.book.specs.Soundness.{sound, cellsSound, totalsSound, totalSound, partSound, figuresSound, yearInRange};
+ghost use Rattle.book.specs.Soundness.{sound, cellsSound, totalsSound, partSound, figuresSound, yearInRange};
 ghost use Rattle.book.specs.declared.ledger.Book.{Book};
 use crate::ledger::ALL_CLOSED;
 use crate::ledger::Book;

@@ -1,5 +1,4 @@
 // Words of 64 bits in bytes, low byte first.
-ghost use mathlib.Core.Path.{_≡_};
 ghost use Prim.Native.Nat.{_+_, _*_, _<_, _≤_, _^_};
 ghost use lib.ListN.{length};
 

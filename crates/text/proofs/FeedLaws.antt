@@ -1,26 +1,24 @@
--- Laws of a desk: what it holds, the end of its input, and a buffer with room and without.
-use Prim.Native.Nat.{ℕ, suc, _+_, _*_, _≤_, _<_, min}
+-- Laws of a desk: what it holds, a buffer with room and without, a chunk, and the end of its input.
+use Prim.Native.Nat.{ℕ, _≤_, min}
 use native.Mathlib.Decide.{decLe}
-use native.Mathlib.Numerals.{add-one}
 use native.Mathlib.Omega.{arith}
 use mathlib.Core.Bool.{Bool, true, false, true≢false}
 use mathlib.Core.Path.{_≡_, refl, sym, subst, _∙_}
-use mathlib.Core.List.{List, [], _++_}
+use mathlib.Core.List.{List, []}
 use lib.Dec.{ltb}
-use lib.ListN.{length, getD, take, drop, set, length-set, drop-of-length-le}
-use lib.Seq.{drop-cons, take-all, take-suc-set, length-take-le}
-use borrow.Author.Tests.{eq-eqb, ne-eqb, lt-ltb, le-ltb}
-use Rattle.book.specs.declared.ledger.Book.{Book}
+use lib.ListN.{length, take}
+use lib.Seq.{take-all, length-take-le}
+use borrow.Author.Tests.{lt-ltb}
 use Rattle.text.specs.declared.answering.Step.{Step}
 use Rattle.text.specs.declared.desk.Desk.{Desk}
 use Rattle.text.specs.declared.desk.Fed.{Fed}
 use Rattle.text.specs.declared.serving.Turn.{Turn}
 use Rattle.text.specs.declared.serving.Served.{Served}
 use Rattle.text.specs.Serving.{goesOn, NextLine, ServedBy}
-use Rattle.text.specs.Answers.{textOf, answerTo, answerRoom, Answered}
-use Rattle.text.specs.Desk.{Terminal, takes, takesAll, ends, atDesk, mostHeld, lineFeed, Serves, FedBy}
+use Rattle.text.specs.Answers.{answerTo, answerRoom, Answered}
+use Rattle.text.specs.Desk.{Terminal, takesAll, ends, atDesk, mostHeld, Serves, FedBy}
 use Rattle.text.proofs.AnswerLaws.{text-length}
-use Rattle.text.proofs.StoreLaws.{after-text, same-long}
+use Rattle.text.proofs.StoreLaws.{same-long}
 
 -- a desk's len may say anything: what it holds is at most what its array holds
 pub held-min : (held : List ℕ) (len n : ℕ) → length held ≡ mostHeld → n ≡ min len mostHeld → take n held ≡ take len held
@@ -30,64 +28,64 @@ held-min held len n h e = go (decLe len mostHeld)
     go (yes l) = let q : n ≡ len = omega arith in rw q
     go (no l) = take-all n held (omega arith) ∙ sym (take-all len held (omega arith))
 
--- ---- a chunk
-pub took :
-    (d : Desk) (n : ℕ) (chunk out : List ℕ) (first : Turn) (r : Served) (out′ : List ℕ) → length (d .held) ≡ mostHeld → n ≡ min (d .len) mostHeld → NextLine (d .held) n chunk 0 0 first
-    → ServedBy (goesOn (d .book) [] chunk first) out r out′
-    → (r .turn .len ≤ mostHeld) × Serves (takesAll (atDesk d) chunk) out (record { fits = true; desk = record { book = r .book; held = r .turn .held; len = r .turn .len }; at = r .turn .put }) out′
-took d n chunk out first r out′ h m f s =
-    let e : takesAll (atDesk d) chunk ≡ goesOn (d .book) [] chunk first = rw (← (held-min (d .held) (d .len) n h m)) (f .goes (d .book) []) in (
-      s .len-fits,
-      subst (λ (t : Terminal). Serves t out (record { fits = true; desk = record { book = r .book; held = r .turn .held; len = r .turn .len }; at = r .turn .put }) out′) (sym e) (record {
-        book-is = s .book-is;
-        held-is = s .held-is;
-        at-is = s .stands .end-is ∙ omega arith;
-        out-is = s .stands .out-is;
-        at-in = s .put-in;
-        at-counts = sym (length-take-le (r .turn .put) out′ (s .put-in));
-      }),
-    )
-
--- ---- the end of the input
-module _ (d : Desk) (n : ℕ) (h : length (d .held) ≡ mostHeld) (m : n ≡ min (d .len) mostHeld) where
-  pub no-last : (out : List ℕ) → n ≡ 0 → (n ≤ mostHeld) × Serves (ends (atDesk d)) out (record { fits = true; desk = record { book = d .book; held = d .held; len = n }; at = 0 }) out
-  no-last out e =
-      let z : d .len ≡ 0 = omega arith in
-      let k : ltb 0 (length (take (d .len) (d .held))) ≡ false = rw z in
-      (omega arith, rw k (record { book-is = refl; held-is = rw (e, z); at-is = refl; out-is = refl; at-in = omega arith; at-counts = refl }))
-
-  pub a-last :
-      (out out′ : List ℕ) (r : Step) → (n ≡ 0 → ⊥) → answerRoom ≤ length out → Answered (d .book) (take n (d .held)) out 0 r out′
-      → (0 ≤ mostHeld) × Serves (ends (atDesk d)) out (record { fits = true; desk = record { book = r .book; held = d .held; len = 0 }; at = r .at }) out′
-  a-last out out′ r z room a =
-      let e : take n (d .held) ≡ take (d .len) (d .held) = held-min (d .held) (d .len) n h m in
-      let l : length (take n (d .held)) ≡ n = length-take-le n (d .held) (omega arith) in
-      let k : ltb 0 (length (take n (d .held))) ≡ true = lt-ltb 0 (length (take n (d .held))) (omega arith) in
-      let o : r .at ≤ length out′ = omega (arith, same-long (a .stands), a .stands .end-is, text-length (answerTo (d .book) (take n (d .held)) .answer)) in (
-        omega arith,
-        rw (← e, k) (record {
-          book-is = a .book-is;
-          held-is = refl;
-          at-is = a .stands .end-is ∙ omega arith;
-          out-is = a .stands .out-is;
-          at-in = o;
-          at-counts = sym (length-take-le (r .at) out′ o);
-        }),
-      )
-
 -- ---- with room and without
+pub fed : {d : Desk} {t : Terminal} {out : List ℕ} {r : Fed} {out′ : List ℕ} → r .fits ≡ true → r .desk .len ≡ length (t .held) → Serves t out r out′ → FedBy true d t out r out′
+fed f l s = record { fits-is = f; serves = s; kept = λ e. absurd (true≢false e); len-is = λ _. l }
+
+pub with-room : {room : Bool} {d : Desk} {t : Terminal} {out : List ℕ} {r : Fed} {out′ : List ℕ} → room ≡ true → FedBy true d t out r out′ → FedBy room d t out r out′
+with-room {room} {d} {t} {out} {r} {out′} e f = subst (λ (b : Bool). FedBy b d t out r out′) (sym e) f
+
 pub unfed : {room : Bool} {d : Desk} {t : Terminal} {out : List ℕ} → room ≡ false → FedBy room d t out (record { fits = false; desk = d; at = 0 }) out
 unfed e =
     record {
       fits-is = sym e;
       serves = rw e (record { book-is = refl; held-is = refl; at-is = refl; out-is = refl; at-in = omega arith; at-counts = refl });
       kept = λ _. refl;
-      len-fits = λ f. absurd (true≢false (sym f ∙ e));
+      len-is = λ f. absurd (true≢false (sym f ∙ e));
     }
-
-pub fed : {room : Bool} {d : Desk} {t : Terminal} {out : List ℕ} {r : Fed} {out′ : List ℕ} → room ≡ true → (r .fits ≡ true) × ((r .desk .len ≤ mostHeld) × Serves t out r out′) → FedBy room d t out r out′
-fed e h = record { fits-is = h .0 ∙ sym e; serves = rw e (h .1 .1); kept = λ f. absurd (true≢false (sym e ∙ f)); len-fits = λ _. h .1 .0 }
 
 -- for a caller whose buffer has the room
 pub served : {room : Bool} {d : Desk} {t : Terminal} {out : List ℕ} {r : Fed} {out′ : List ℕ} → room ≡ true → FedBy room d t out r out′ → Serves t out r out′
 served e f = rw e at (f .serves)
+
+-- ---- a chunk
+pub took :
+    (d : Desk) (n : ℕ) (chunk out : List ℕ) (first : Turn) (r : Served) (out′ : List ℕ) → length (d .held) ≡ mostHeld → n ≡ min (d .len) mostHeld → NextLine (d .held) n chunk 0 0 first
+    → ServedBy (goesOn (d .book) [] chunk first) out r out′
+    → FedBy true d (takesAll (atDesk d) chunk) out (record { fits = true; desk = record { book = r .book; held = r .turn .held; len = r .turn .len }; at = r .turn .put }) out′
+took d n chunk out first r out′ h m f s =
+    let e : takesAll (atDesk d) chunk ≡ goesOn (d .book) [] chunk first = rw (← (held-min (d .held) (d .len) n h m)) (f .goes (d .book) []) in
+    subst (λ (t : Terminal). FedBy true d t out (record { fits = true; desk = record { book = r .book; held = r .turn .held; len = r .turn .len }; at = r .turn .put }) out′) (sym e)
+    (fed refl (s .len-is) (record {
+      book-is = s .book-is;
+      held-is = s .held-is;
+      at-is = s .stands .end-is ∙ omega arith;
+      out-is = s .stands .out-is;
+      at-in = s .put-in;
+      at-counts = sym (length-take-le (r .turn .put) out′ (s .put-in));
+    }))
+
+-- ---- the end of the input
+module _ (d : Desk) (n : ℕ) (h : length (d .held) ≡ mostHeld) (m : n ≡ min (d .len) mostHeld) where
+  pub no-last : (out : List ℕ) → n ≡ 0 → FedBy true d (ends (atDesk d)) out (record { fits = true; desk = record { book = d .book; held = d .held; len = n }; at = 0 }) out
+  no-last out e =
+      let z : d .len ≡ 0 = omega arith in
+      let k : ltb 0 (length (take (d .len) (d .held))) ≡ false = rw z in
+      rw k (fed refl (rw (e, z)) (record { book-is = refl; held-is = rw (e, z); at-is = refl; out-is = refl; at-in = omega arith; at-counts = refl }))
+
+  pub a-last :
+      (out out′ : List ℕ) (r : Step) → (n ≡ 0 → ⊥) → answerRoom ≤ length out → Answered (d .book) (take n (d .held)) out 0 r out′
+      → FedBy true d (ends (atDesk d)) out (record { fits = true; desk = record { book = r .book; held = d .held; len = 0 }; at = r .at }) out′
+  a-last out out′ r z room a =
+      let e : take n (d .held) ≡ take (d .len) (d .held) = held-min (d .held) (d .len) n h m in
+      let l : length (take n (d .held)) ≡ n = length-take-le n (d .held) (omega arith) in
+      let k : ltb 0 (length (take n (d .held))) ≡ true = lt-ltb 0 (length (take n (d .held))) (omega arith) in
+      let o : r .at ≤ length out′ = omega (arith, same-long (a .stands), a .stands .end-is, text-length (answerTo (d .book) (take n (d .held)) .answer)) in
+      rw (← e, k) (fed refl refl (record {
+        book-is = a .book-is;
+        held-is = refl;
+        at-is = a .stands .end-is ∙ omega arith;
+        out-is = a .stands .out-is;
+        at-in = o;
+        at-counts = sym (length-take-le (r .at) out′ o);
+      }))

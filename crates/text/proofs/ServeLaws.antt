@@ -1,4 +1,4 @@
--- Laws of a chunk served line by line: `Reading` is the invariant of `next_line`, `Serving` that of `serve`; each way through
+-- Laws of a chunk served line by line: `Reading` is the invariant of `next_line`, `Midway` that of `serve`; each way through
 -- a loop is one law.
 use Prim.Native.Nat.{ℕ, zero, suc, _+_, _*_, _-_, _≤_, _<_}
 use native.Mathlib.Numerals.{add-one}
@@ -13,12 +13,11 @@ use borrow.Author.Tests.{eq-eqb, ne-eqb, lt-ltb, le-ltb}
 use Rattle.book.specs.declared.ledger.Book.{Book}
 use Rattle.book.specs.declared.answers.Answer.{Answer}
 use Rattle.text.specs.declared.serving.Turn.{Turn}
-use Rattle.text.specs.declared.serving.Served.{Served}
 use Rattle.text.specs.Placing.{Stands}
 use Rattle.text.specs.declared.lines.Line.{Line}
 use Rattle.text.specs.Line.{lineOf}
 use Rattle.text.specs.Answers.{answerRoom, answerTo, postedLine, textOf}
-use Rattle.text.specs.Desk.{Terminal, takes, takesAll, mostHeld, lineFeed}
+use Rattle.text.specs.Desk.{Terminal, takes, takesAll, holdingFirst, mostHeld, lineFeed}
 use Rattle.text.specs.Serving.{goesOn, NextLine, After, Ready, ServedBy}
 use Rattle.text.proofs.AnswerLaws.{text-length}
 use Rattle.text.proofs.StoreLaws.{after-text, same-long}
@@ -30,11 +29,11 @@ pub record Reading (before : List ℕ) (count : ℕ) (chunk : List ℕ) (start :
   pub onward : start ≤ taken
   pub len-fits : len ≤ mostHeld
   pub held-long : length held ≡ mostHeld
-  pub goes : (b : Book) (said : List ℕ) → takesAll (record { book = b; held = take count before; said = said }) (drop start chunk) ≡ takesAll (record { book = b; held = take len held; said = said }) (drop taken chunk)
+  pub goes : (b : Book) (said : List ℕ) → takesAll (holdingFirst b before count said) (drop start chunk) ≡ takesAll (holdingFirst b held len said) (drop taken chunk)
 
-pub reads : (before : List ℕ) (count : ℕ) (chunk : List ℕ) (start : ℕ) → count ≤ mostHeld → length before ≡ mostHeld → start ≤ length chunk → Reading before count chunk start before count start
+pub reads : (before : List ℕ) (count : ℕ) (chunk : List ℕ) (start : ℕ) → count ≤ length before → length before ≡ mostHeld → start ≤ length chunk → Reading before count chunk start before count start
 reads before count chunk start h e k =
-    record { in-chunk = k; onward = omega arith; len-fits = h; held-long = e; goes = λ b said. refl }
+    record { in-chunk = k; onward = omega arith; len-fits = omega arith; held-long = e; goes = λ b said. refl }
 
 module _ {before : List ℕ} {count : ℕ} {chunk : List ℕ} {start : ℕ} {held : List ℕ} {len taken : ℕ} (f : Reading before count chunk start held len taken) where
   pub held-in : len ≤ length held
@@ -45,8 +44,8 @@ module _ {before : List ℕ} {count : ℕ} {chunk : List ℕ} {start : ℕ} {hel
 
   module _ (here : taken < length chunk) where
     byte : (b : Book) (said : List ℕ)
-        → takesAll (record { book = b; held = take count before; said = said }) (drop start chunk)
-        ≡ takesAll (takes (record { book = b; held = take len held; said = said }) (getD chunk taken 0)) (drop (suc taken) chunk)
+        → takesAll (holdingFirst b before count said) (drop start chunk)
+        ≡ takesAll (takes (holdingFirst b held len said) (getD chunk taken 0)) (drop (suc taken) chunk)
     unfolding takesAll
     byte b said = f .goes b said ∙ rw (drop-cons chunk taken 0 here)
 
@@ -55,11 +54,9 @@ module _ {before : List ℕ} {count : ℕ} {chunk : List ℕ} {start : ℕ} {hel
     unfolding answerTo
     line-ends line put e l =
         record {
-          goes = λ b said. byte b said ∙ rw (eq-eqb (getD chunk taken 0) lineFeed e, l, add-one taken);
-          len-fits = omega arith;
-          onward = λ _. omega (arith, f .onward);
-          in-chunk = omega arith;
+          within = record { len-fits = omega arith; onward = λ _. omega (arith, f .onward); in-chunk = omega arith };
           put-is = refl;
+          goes = λ b said. byte b said ∙ rw (eq-eqb (getD chunk taken 0) lineFeed e, l, add-one taken);
         }
 
     module _ (other : getD chunk taken 0 ≡ lineFeed → ⊥) where
@@ -89,17 +86,15 @@ module _ {before : List ℕ} {count : ℕ} {chunk : List ℕ} {start : ℕ} {hel
   unfolding takesAll
   chunk-ends line put h =
       record {
-        goes = λ b said. f .goes b said ∙ rw (drop-of-length-le chunk h);
-        len-fits = f .len-fits;
-        onward = λ e. absurd (true≢false (sym e));
-        in-chunk = f .in-chunk;
+        within = record { len-fits = held-in; onward = λ e. absurd (true≢false (sym e)); in-chunk = f .in-chunk };
         put-is = refl;
+        goes = λ b said. f .goes b said ∙ rw (drop-of-length-le chunk h);
       }
 
 -- ---- a chunk served line by line
 -- begun at `first` with b₀ and out₀, the loop has come to this book, this turn and this buffer
-pub record Serving (b₀ : Book) (first : Turn) (chunk out₀ : List ℕ) (b : Book) (t : Turn) (out : List ℕ) : Type 0 where
-  pub len-fits : t .len ≤ mostHeld
+pub record Midway (b₀ : Book) (first : Turn) (chunk out₀ : List ℕ) (b : Book) (t : Turn) (out : List ℕ) : Type 0 where
+  pub len-fits : t .len ≤ length (t .held)
   pub in-chunk : t .taken ≤ length chunk
   pub counted : t .ended ≡ true → t .put + answerRoom ≤ answerRoom * t .taken
   pub room : answerRoom * length chunk ≤ length out₀
@@ -108,12 +103,12 @@ pub record Serving (b₀ : Book) (first : Turn) (chunk out₀ : List ℕ) (b : B
   pub stands : Stands said 0 out₀ (t .put) out
   pub goes : goesOn b₀ [] chunk first ≡ goesOn b said chunk t
 
-pub starts : (b : Book) (t : Turn) (chunk out : List ℕ) → Ready t chunk out → Serving b t chunk out b t out
+pub starts : (b : Book) (t : Turn) (chunk out : List ℕ) → Ready t chunk out → Midway b t chunk out b t out
 starts b t chunk out r =
     record {
-      len-fits = r .len-fits;
-      in-chunk = r .in-chunk;
-      counted = λ e. omega (arith, r .put-is, r .onward e);
+      len-fits = r .within .len-fits;
+      in-chunk = r .within .in-chunk;
+      counted = λ e. omega (arith, r .put-is, r .within .onward e);
       room = r .room;
       put-in = omega (arith, r .put-is);
       said = [];
@@ -126,19 +121,19 @@ abbrev pub weight : Bool → ℕ → ℕ
 weight true n = suc n
 weight false n = zero
 
-module _ {b₀ : Book} {first : Turn} {chunk out₀ : List ℕ} {b : Book} {t : Turn} {out : List ℕ} (s : Serving b₀ first chunk out₀ b t out) where
+module _ {b₀ : Book} {first : Turn} {chunk out₀ : List ℕ} {b : Book} {t : Turn} {out : List ℕ} (s : Midway b₀ first chunk out₀ b t out) where
   module _ (ended : t .ended ≡ true) where
     -- what `after` asks
-    pub asked : (t .len ≤ mostHeld) × ((t .taken ≤ length chunk) × (t .put + answerRoom ≤ length out))
+    pub asked : (t .len ≤ length (t .held)) × ((t .taken ≤ length chunk) × (t .put + answerRoom ≤ length out))
     asked = (s .len-fits, (s .in-chunk, omega (arith, s .counted ended, s .room, s .in-chunk, same-long (s .stands))))
 
     module _ {a : Answer} {z : Book} {r : Turn} {out′ : List ℕ} (answered : a ≡ postedLine b (t .line) .answer) (left : z ≡ postedLine b (t .line) .book) (f : After t a chunk out r out′) where
-      pub next : Serving b₀ first chunk out₀ z r out′
+      pub next : Midway b₀ first chunk out₀ z r out′
       next =
           record {
-            len-fits = f .next .len-fits;
-            in-chunk = f .next .in-chunk;
-            counted = λ e. omega (arith, f .stands .end-is, text-length a, s .counted ended, f .next .onward e);
+            len-fits = f .next .within .len-fits;
+            in-chunk = f .next .within .in-chunk;
+            counted = λ e. omega (arith, f .stands .end-is, text-length a, s .counted ended, f .next .within .onward e);
             room = s .room;
             put-in = omega (arith, f .stands .end-is, text-length a, asked .1 .1, same-long (s .stands));
             said = s .said ++ textOf a;
@@ -147,21 +142,21 @@ module _ {b₀ : Book} {first : Turn} {chunk out₀ : List ℕ} {b : Book} {t : 
           }
 
       pub nearer : weight (r .ended) (length chunk - r .taken) < weight (t .ended) (length chunk - t .taken)
-      nearer = rw ended (less (r .ended) (f .next .onward))
+      nearer = rw ended (less (r .ended) (f .next .within .onward))
         where
           less : (e : Bool) → (e ≡ true → t .taken < r .taken) → weight e (length chunk - r .taken) < suc (length chunk - t .taken)
-          less true k = omega (arith, k refl, f .next .in-chunk)
+          less true k = omega (arith, k refl, f .next .within .in-chunk)
           less false k = omega arith
 
   -- where no line has ended, the chunk is served
-  pub served : t .ended ≡ false → ServedBy (goesOn b₀ [] chunk first) out₀ (record { book = b; turn = t }) out
-  served over =
-      let e : goesOn b₀ [] chunk first ≡ record { book = b; held = take (t .len) (t .held); said = s .said } = s .goes ∙ rw over in
+  pub all-served : t .ended ≡ false → ServedBy (goesOn b₀ [] chunk first) out₀ (record { book = b; turn = t }) out
+  all-served over =
+      let e : goesOn b₀ [] chunk first ≡ holdingFirst b (t .held) (t .len) (s .said) = s .goes ∙ rw over in
       subst (λ (u : Terminal). ServedBy u out₀ (record { book = b; turn = t }) out) (sym e)
       (record {
         book-is = refl;
         held-is = refl;
-        len-fits = s .len-fits;
+        len-is = sym (length-take-le (t .len) (t .held) (s .len-fits));
         stands = s .stands;
         put-in = omega (arith, s .put-in, same-long (s .stands));
       })

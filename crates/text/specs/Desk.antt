@@ -54,9 +54,13 @@ terminalIf false a b = b
 abbrev pub ends : Terminal → Terminal
 ends t = terminalIf (ltb 0 (length (t .held))) (answering t) t
 
+-- a terminal that holds the first len bytes of an array
+abbrev pub holdingFirst : Book → List ℕ → ℕ → List ℕ → Terminal
+holdingFirst b held len said = record { book = b; held = take len held; said = said }
+
 -- a desk as a terminal that has said nothing yet, whatever its length says
 abbrev pub atDesk : Desk → Terminal
-atDesk d = record { book = d .book; held = take (d .len) (d .held); said = [] }
+atDesk d = holdingFirst (d .book) (d .held) (d .len) []
 
 abbrev pub openDesk : Desk
 openDesk = record { book = freshBook; held = replicate mostHeld 0; len = 0 }
@@ -71,10 +75,10 @@ pub record Serves (t : Terminal) (out : List ℕ) (r : Fed) (out′ : List ℕ) 
   pub at-in : r .at ≤ length out′
   pub at-counts : r .at ≡ length (take (r .at) out′)
 
--- the contract of `feed` and of `last`: with room for the answers, the terminal t; without, the desk and the buffer as they were
+-- the contract of `feed` and of `last`: with room for the answers, the terminal t, and the desk's len counts what it holds;
+-- without, the desk and the buffer as they were
 pub record FedBy (room : Bool) (d : Desk) (t : Terminal) (out : List ℕ) (r : Fed) (out′ : List ℕ) : Type 0 where
   pub fits-is : r .fits ≡ room
   pub serves : Serves (terminalIf room t (atDesk d)) out r out′
   pub kept : room ≡ false → r .desk ≡ d
-  -- and the desk counts the bytes that it holds, no more
-  pub len-fits : room ≡ true → r .desk .len ≤ mostHeld
+  pub len-is : room ≡ true → r .desk .len ≡ length (t .held)

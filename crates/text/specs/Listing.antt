@@ -35,11 +35,11 @@ unfoldable pub gather : ℕ → (ℕ → List ℕ) → List ℕ
 gather zero f = []
 gather (suc n) f = gather n f ++ f n
 
--- of the open year and the book's lots; i counts the years from the first
+-- o is the open year, l the book's lots; i counts the years from the first
 unfoldable pub lotLine : ℕ → List ℕ → ℕ → ℕ → ℕ → List ℕ
 lotLine o l m s i = lotText m s (firstYear + i) (lotEntry o l m s (firstYear + i))
 
--- of the open year and the book's shortages
+-- o is the open year, l the book's shortages
 unfoldable pub shortageLine : ℕ → List ℕ → ℕ → ℕ → ℕ → List ℕ
 shortageLine o l m s i = shortageText m s (firstYear + i) (shortageEntry o l m s (firstYear + i))
 

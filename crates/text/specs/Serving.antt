@@ -1,8 +1,8 @@
 -- Private to the desk: a chunk served line by line comes to the terminal that takes it byte by byte.
-use Prim.Native.Nat.{ℕ, _+_, _*_, _≤_, _<_}
+use Prim.Native.Nat.{ℕ, _*_, _≤_, _<_}
 use mathlib.Core.Bool.{true}
 use mathlib.Core.Path.{_≡_}
-use mathlib.Core.List.{List, [], _++_}
+use mathlib.Core.List.{List, _++_}
 use lib.ListN.{length, take, drop}
 use Rattle.book.specs.declared.ledger.Book.{Book}
 use Rattle.book.specs.declared.answers.Answer.{Answer}
@@ -10,39 +10,38 @@ use Rattle.text.specs.declared.serving.Turn.{Turn}
 use Rattle.text.specs.declared.serving.Served.{Served}
 use Rattle.text.specs.Placing.{Stands}
 use Rattle.text.specs.Answers.{answerRoom, postedLine, textOf}
-use Rattle.text.specs.Desk.{Terminal, takesAll, terminalIf, mostHeld}
+use Rattle.text.specs.Desk.{Terminal, takesAll, terminalIf, holdingFirst}
 
 -- what a terminal comes to with this book: where a line has ended it is answered, and the rest of the chunk is taken
 abbrev pub goesOn : Book → List ℕ → List ℕ → Turn → Terminal
 goesOn b said chunk t =
     terminalIf (t .ended)
     (takesAll
-    (record {
-      book = postedLine b (t .line) .book;
-      held = take (t .len) (t .held);
-      said = said ++ textOf (postedLine b (t .line) .answer);
-    })
+    (holdingFirst (postedLine b (t .line) .book) (t .held) (t .len) (said ++ textOf (postedLine b (t .line) .answer)))
     (drop (t .taken) chunk))
-    (record { book = b; held = take (t .len) (t .held); said = said })
+    (holdingFirst b (t .held) (t .len) said)
 
--- the contract of `next_line`, whatever the book and whatever was said
-pub record NextLine (held : List ℕ) (len : ℕ) (chunk : List ℕ) (start put : ℕ) (t : Turn) : Type 0 where
-  pub goes : (b : Book) (said : List ℕ) → takesAll (record { book = b; held = take len held; said = said }) (drop start chunk) ≡ goesOn b said chunk t
-  pub len-fits : t .len ≤ mostHeld
+-- a turn that has taken a chunk's bytes from `start` on, at least one where a line has ended
+pub record Within (chunk : List ℕ) (start : ℕ) (t : Turn) : Type 0 where
+  pub len-fits : t .len ≤ length (t .held)
   pub onward : t .ended ≡ true → start < t .taken
   pub in-chunk : t .taken ≤ length chunk
+
+-- the contract of `next_line`: whatever the book and whatever was said, the terminal that takes the chunk from `start` on comes
+-- to what the turn says
+pub record NextLine (held : List ℕ) (len : ℕ) (chunk : List ℕ) (start put : ℕ) (t : Turn) : Type 0 where
+  pub within : Within chunk start t
   pub put-is : t .put ≡ put
+  pub goes : (b : Book) (said : List ℕ) → takesAll (holdingFirst b held len said) (drop start chunk) ≡ goesOn b said chunk t
 
 -- the contract of `after`: the answer's text is put, and the next line read
 pub record After (t : Turn) (a : Answer) (chunk out : List ℕ) (r : Turn) (out′ : List ℕ) : Type 0 where
   pub stands : Stands (textOf a) (t .put) out (r .put) out′
   pub next : NextLine (t .held) (t .len) chunk (t .taken) (r .put) r
 
--- what `serve` asks: a chunk whose first line, if one ends in it, is not answered yet, and room for an answer a byte
+-- what `serve` asks: a chunk of which nothing is answered yet, and room for an answer for each of its bytes
 pub record Ready (t : Turn) (chunk out : List ℕ) : Type 0 where
-  pub len-fits : t .len ≤ mostHeld
-  pub onward : t .ended ≡ true → 0 < t .taken
-  pub in-chunk : t .taken ≤ length chunk
+  pub within : Within chunk 0 t
   pub put-is : t .put ≡ 0
   pub room : answerRoom * length chunk ≤ length out
 
@@ -50,6 +49,6 @@ pub record Ready (t : Turn) (chunk out : List ℕ) : Type 0 where
 pub record ServedBy (t : Terminal) (out : List ℕ) (r : Served) (out′ : List ℕ) : Type 0 where
   pub book-is : r .book ≡ t .book
   pub held-is : take (r .turn .len) (r .turn .held) ≡ t .held
-  pub len-fits : r .turn .len ≤ mostHeld
+  pub len-is : r .turn .len ≡ length (t .held)
   pub stands : Stands (t .said) 0 out (r .turn .put) out′
   pub put-in : r .turn .put ≤ length out′

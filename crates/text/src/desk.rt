@@ -5,7 +5,7 @@ ghost use Prim.Native.Nat.{_*_, _/_, _≤_, min};
 ghost use lib.Dec.{leb};
 ghost use lib.ListN.{length};
 ghost use Rattle.text.specs.Answers.{answerRoom};
-ghost use Rattle.text.specs.Desk.{FedBy, Serves, atDesk, ends, mostHeld, openDesk, takesAll};
+ghost use Rattle.text.specs.Desk.{FedBy, atDesk, ends, mostHeld, openDesk, takesAll};
 use crate::answering::ANSWER_ROOM;
 use crate::answering::answer_into;
 use crate::serving::MOST_HELD;
@@ -77,7 +77,7 @@ fn held_count(len: usize) -> usize
 
 fn take_chunk(desk: Desk, chunk: &[u8], out: &mut [u8]) -> Fed
     requires { ⌜ answerRoom * length (now chunk) ≤ length (now out) ⌝ }
-    ensures { λ r. ⌜ (r .fits ≡ true) × ((r .desk .len ≤ mostHeld) × Serves (takesAll (atDesk desk) (now (chunk .entry))) (now (out .entry)) r (now (out .exit))) ⌝ }
+    ensures { λ r. ⌜ FedBy true desk (takesAll (atDesk desk) (now (chunk .entry))) (now (out .entry)) r (now (out .exit)) ⌝ }
 {
     let held = desk.held;
     let first = next_line(held, held_count(desk.len), chunk, 0, 0);
@@ -99,7 +99,7 @@ fn take_chunk(desk: Desk, chunk: &[u8], out: &mut [u8]) -> Fed
 
 fn take_last(desk: Desk, out: &mut [u8]) -> Fed
     requires { ⌜ answerRoom ≤ length (now out) ⌝ }
-    ensures { λ r. ⌜ (r .fits ≡ true) × ((r .desk .len ≤ mostHeld) × Serves (ends (atDesk desk)) (now (out .entry)) r (now (out .exit))) ⌝ }
+    ensures { λ r. ⌜ FedBy true desk (ends (atDesk desk)) (now (out .entry)) r (now (out .exit)) ⌝ }
 {
     let book = desk.book;
     let held = desk.held;

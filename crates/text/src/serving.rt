@@ -1,10 +1,9 @@
-// A chunk of the input served line by line. The loop owns one book and posts to it in place; what it needs of the text, the
-// next line and the answer's place, are functions of their own.
-ghost use Prim.Native.Nat.{_+_, _*_, _≤_};
+// A chunk of the input served line by line. The loop owns one book and posts to it in place; reading the next line and
+// putting an answer are functions of their own.
+ghost use Prim.Native.Nat.{_+_, _≤_};
+ghost use mathlib.Core.List.{[]};
 ghost use lib.ListN.{length};
 ghost use Rattle.text.specs.Answers.{answerRoom};
-ghost use Rattle.text.specs.Desk.{mostHeld};
-ghost use mathlib.Core.List.{[]};
 ghost use Rattle.text.specs.Serving.{After, NextLine, Ready, ServedBy, goesOn};
 use crate::answering::line_in;
 use crate::answering::write_answer;
@@ -13,10 +12,10 @@ use crate::reader::read_line;
 use book::answers::Answer;
 use book::ledger::Book;
 
-// A line is held up to this many bytes: they are too many already, and stand for any longer line.
+// A line is held up to this many bytes, one more than the longest form has: they stand for any longer line.
 pub(crate) const MOST_HELD: usize = 161;
 
-// Where a chunk stands.
+// How far a chunk has been taken.
 pub struct Turn {
     // Whether a line has ended, and what it is; if none has, the chunk is taken whole.
     pub ended: bool,
@@ -29,7 +28,7 @@ pub struct Turn {
     pub put: usize,
 }
 
-// The book after a chunk, and where the chunk stands.
+// The book after a chunk, and how far it has been taken.
 pub struct Served {
     pub book: Book,
     pub turn: Turn,
@@ -52,7 +51,7 @@ pub(crate) fn serve(book: Book, first: Turn, chunk: &[u8], out: &mut [u8]) -> Se
 
 // Puts the answer to the line that has ended, and takes the bytes to the end of the next.
 fn after(turn: Turn, answer: Answer, chunk: &[u8], out: &mut [u8]) -> Turn
-    requires { ⌜ (turn .len ≤ mostHeld) × ((turn .taken ≤ length (now chunk)) × (turn .put + answerRoom ≤ length (now out))) ⌝ }
+    requires { ⌜ (turn .len ≤ length (turn .held)) × ((turn .taken ≤ length (now chunk)) × (turn .put + answerRoom ≤ length (now out))) ⌝ }
     ensures { λ r. ⌜ After turn answer (now (chunk .entry)) (now (out .entry)) r (now (out .exit)) ⌝ }
 {
     let put = write_answer(out, turn.put, answer);
@@ -68,7 +67,7 @@ pub(crate) fn next_line(
     start: usize,
     put: usize,
 ) -> Turn
-    requires { ⌜ (count ≤ mostHeld) × (start ≤ length (now chunk)) ⌝ }
+    requires { ⌜ (count ≤ length before) × (start ≤ length (now chunk)) ⌝ }
     ensures { λ r. ⌜ NextLine before count (now (chunk .entry)) start put r ⌝ }
 {
     let mut held = before;

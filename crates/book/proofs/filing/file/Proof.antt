@@ -10,7 +10,7 @@ use Rattle.book.specs.Rules.{fileTable, table, done}
 use Rattle.book.specs.Postings.{partFor, stored}
 use Rattle.book.specs.declared.answers.Verdict.the-variants.{Accepted}
 use Rattle.book.proofs.TableLaws.{posted-refused, posted-accepted}
-use Rattle.book.proofs.FileFacts.{Fileable, fileable, part-for, part-is, never-out}
+use Rattle.book.proofs.FileFacts.{Fileable, fileable, part-is, never-out}
 use Rattle.book.proofs.filing.file.Statement.{statement}
 use Rattle.book.proofs.filing.file.Tie as tie
 
@@ -24,12 +24,11 @@ facts : (c : tie.After-enum-told) → Fileable (start c .args .book) (start c .a
 facts c = fileable _ _ (accepted c)
 
 abbrev told : tie.After-part → tie.After-enum-told
-told c = c .before .before .before .before .before
+told c = c .before .before .before
 
 figure : (c : tie.After-part) → c .part .given .0 .0 .0 ≡ partFor (start (told c) .args .f)
-figure c =
-    part-is _ _ _ _ _ (facts (told c) .limits) (c .before .before .family-part .ensures) (c .part .given .1)
-    ∙ part-for (start (told c) .args .f) (c .before .before .before .before .standard-for .ensures) (c .before .before .before .grams .ensures)
+unfolding partFor
+figure c = part-is _ _ _ _ _ (facts (told c) .limits) (c .before .before .part-of .ensures) (c .part .given .1)
 
 -- the arm that stores the part, where its cell is figured and where it is written
 abbrev at-cell : tie.After-struct-known2 → tie.After-enum-told
@@ -47,14 +46,8 @@ enum-known-verdict c = search needs
 enum-told : tie.Need-enum-told
 enum-told c = search needs
 
-standard-for-requires : tie.Need-standard-for-requires
-standard-for-requires c κs = search needs
-
-grams-requires : tie.Need-grams-requires
-grams-requires c κs = search needs
-
-family-part-requires : tie.Need-family-part-requires
-family-part-requires c κs = search needs
+part-of-requires : tie.Need-part-of-requires
+part-of-requires c κs = search needs
 
 enum-told-2 : tie.Need-enum-told-2
 enum-told-2 c = search needs
@@ -96,8 +89,8 @@ element-set-from-figure : tie.Need-element-set-from-figure
 element-set-from-figure c = omega (arith, facts (storing c))
 
 -- A count of any 64-bit number fits: so a count of another number than the mark would pass here and fail at `returns-3`.
-cast-t23 : tie.Need-cast-t23
-cast-t23 c =
+cast-t21 : tie.Need-cast-t21
+cast-t21 c =
     omega (
       arith,
       ones-le 64 (c .before .with-bit .result) (c .before .with-bit .ok),
@@ -112,8 +105,8 @@ returns c =
 returns-2 : tie.Need-returns-2
 returns-2 c =
     absurd
-    (never-out _ _ _ _ _ (facts (c .before .before .before .before .before) .limits)
-    (c .before .before .family-part .ensures) (c .enum-told2 .given .1))
+    (never-out _ _ _ _ _ (facts (c .before .before .before) .limits)
+    (c .before .before .part-of .ensures) (c .enum-told2 .given .1))
 
 returns-3 : tie.Need-returns-3
 unfolding table done stored
@@ -132,9 +125,7 @@ file-spec =
     file-verdict-requires
     enum-known-verdict
     enum-told
-    standard-for-requires
-    grams-requires
-    family-part-requires
+    part-of-requires
     enum-told-2
     enum-known-part
     mul-cell
@@ -148,7 +139,7 @@ file-spec =
     add-figure
     mul-figure-2
     element-set-from-figure
-    cast-t23
+    cast-t21
     returns
     returns-2
     returns-3)

@@ -1,4 +1,4 @@
-use mathlib.Core.Path.{_≡_, refl, sym}
+use mathlib.Core.Path.{_≡_, sym}
 use native.Mathlib.Omega.{arith}
 use lib.ListN.{length}
 use lib.Seq.{length-take-le}
@@ -14,7 +14,7 @@ held-count-requires c κs = search needs
 returns : tie.Need-returns
 returns c =
     let h : length (c .before .before .before .before .before .args .desk .held) ≡ mostHeld = search needs in
-    (refl, no-last _ _ h (c .before .held-count .ensures) _ (c .if1 .taken))
+    no-last _ _ h (c .before .held-count .ensures) _ (c .if1 .taken)
 
 array-share-prefix-held : tie.Need-array-share-prefix-held
 array-share-prefix-held c =
@@ -33,7 +33,7 @@ same-length c = search needs
 returns-2 : tie.Need-returns-2
 returns-2 c =
     let h : length (c .before .before .before .before .before .before .before .before .before .before .before .args .desk .held) ≡ mostHeld = search needs in
-    (refl, a-last _ _ h (c .before .before .before .before .before .before .before .held-count .ensures) _ _ _ (c .before .before .before .before .before .before .if1 .left) (c .before .before .before .before .before .before .before .before .before .before .before .pre) (c .before .before .before .answer-into .ensures))
+    a-last _ _ h (c .before .before .before .before .before .before .before .held-count .ensures) _ _ _ (c .before .before .before .before .before .before .if1 .left) (c .before .before .before .before .before .before .before .before .before .before .before .pre) (c .before .before .before .answer-into .ensures)
 
 pub take-last-spec : {M : Type 1} → statement M
 take-last-spec =

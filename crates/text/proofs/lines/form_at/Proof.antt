@@ -1,12 +1,12 @@
 -- A part that starts past the line's end is empty, and no form is; any other part is lent to `form_of`.
 use mathlib.Core.Path.{_≡_, refl, sym, _∙_, ap}
-use mathlib.Core.List.{List, []}
-use Prim.Native.Nat.{ℕ, _-_}
+use mathlib.Core.List.{[]}
+use Prim.Native.Nat.{_-_}
 use native.Mathlib.Omega.{arith}
 use borrow.Author.Needs.{needs}
-use lib.ListN.{length, take, drop, length-drop, drop-of-length-le}
+use lib.ListN.{length, drop, length-drop, drop-of-length-le}
 use lib.Seq.{take-all}
-use Rattle.text.specs.Line.{lineOf, lineAt}
+use Rattle.text.specs.Line.{lineOf}
 use Rattle.text.specs.Pattern.{figures, fit}
 use Rattle.text.specs.declared.lines.Line.{Line}
 use Rattle.text.proofs.lines.form_at.Statement.{statement}

@@ -1,4 +1,3 @@
-use mathlib.Core.Path.{refl}
 use borrow.Author.Needs.{needs}
 use Rattle.text.proofs.serving.after.Statement.{statement}
 use Rattle.text.proofs.serving.after.Tie as tie

@@ -1,6 +1,6 @@
 -- The invariant is `Reading`; each way through the loop is one of its laws.
-use Prim.Native.Nat.{_-_, ℕ}
-use mathlib.Core.Path.{_≡_, sym}
+use Prim.Native.Nat.{_-_}
+use mathlib.Core.Path.{sym}
 use native.Mathlib.Omega.{arith}
 use borrow.Author.Needs.{needs}
 use lib.ListN.{length}

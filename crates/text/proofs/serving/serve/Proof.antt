@@ -1,6 +1,6 @@
 -- `text::serving::serve` meets its contract: a walk of its MIR, by hand, with a loop. The book is a local, which each turn lends to `line_in` and takes back (`calls-lent`).
 -- `after`, which is covered, is passed a copy of what the chunk owns, and the buffer, which is lent again for the call and comes back at the list that it left (`LentSlice`).
--- The loop's invariant is `Serving`; what a turn does to it, and that it does so ever nearer to the end, is `ServeLaws`'.
+-- The loop's invariant is `Midway`; what a turn does to it, and that each turn comes nearer to the end, is `ServeLaws`'.
 -- Assumes nothing.
 use mathlib.Core.Path.{_≡_, refl, sym, ap, subst}
 use Prim.Native.Nat.{ℕ, _-_, _<_}
@@ -52,7 +52,7 @@ use Rattle.text.specs.declared.serving.Served.{Served}
 use Rattle.text.specs.Answers.{postedLine}
 use Rattle.text.specs.Serving.{After, Ready}
 use Rattle.text.proofs.StoreLaws.{same-long}
-use Rattle.text.proofs.ServeLaws.{Serving, starts, weight, asked, next, nearer, served}
+use Rattle.text.proofs.ServeLaws.{Midway, starts, weight, asked, next, nearer, all-served}
 use Rattle.book.proofs.InPlaceWalk.{Passed, of-enum, Thin}
 use Rattle.book.proofs.LentWalk.{calls-lent}
 use Rattle.text.proofs.LentSlice.{LentAgain, lends-again, comes-back}
@@ -137,14 +137,14 @@ uv t = LL.val U.the-type U′.the-laws t
 abbrev sv : Served → Val
 sv r = LL.val S.the-type S′.the-laws r
 
--- ---- the loop's state: the book, the turn and the buffer to which a book h, a turn u, a chunk cs and a buffer ys have come. And what is left to do
+-- ---- the loop's state, begun at the book h, the turn u and the buffer ys, on the chunk cs; and what is left to do
 record State (h : Book) (u : Turn) (cs ys : List ℕ) : Type 0 where
   d : Book
   t : Turn
   out : List ℕ
   d-is : Is B.the-row d (bv d ∷ [])
   t-is : Is U.the-row t (uv t ∷ [])
-  inv : Serving h u cs ys d t out
+  inv : Midway h u cs ys d t out
 
 module _ {h : Book} {u : Turn} {cs ys : List ℕ} where
   abbrev left : State h u cs ys → ℕ
@@ -220,7 +220,7 @@ module _ {M : Type 1} (𝓤 : URA M) (H : Heap 𝓤) (A : Atoms 𝓤) (W : Given
   exits : (s : State h u (c .now) ys) → s .t .ended ≡ false → ent 𝓤 (⋆ 𝓤 H A (‵ (flft κ q) ∷ ‵ (flft κ′ q′) ∷ Buffer κ′ γ (s .out) ∷ [])) (Post (sv (result s)))
   exits s over =
       qed W (‵ (flft κ q) ∷ ‵ (flft κ′ q′) ∷ Buffer κ′ γ (s .out) ∷ []) ∵
-      suffices ! _ (ends-at 𝓤 H A f.ended stayed (f.clauses 𝓤 H A mem run) W bound (sv (result s)) (result s) (tt, (tt, (tt, (s .out, tt)))) (tt, (tt, (tt, (long s, tt))))) $ says ! (served (s .inv) over) $
+      suffices ! _ (ends-at 𝓤 H A f.ended stayed (f.clauses 𝓤 H A mem run) W bound (sv (result s)) (result s) (tt, (tt, (tt, (s .out, tt)))) (tt, (tt, (tt, (long s, tt))))) $ says ! (all-served (s .inv) over) $
       nothing ! $ move ! (2 ∷ 0 ∷ []) $ join ! $ move ! (1 ∷ 0 ∷ []) $ join ! $ frame ! $
       rewrite ! 0 (λ (m : ℕ). ‵ (MutSlice (named 1) κ′ u8 .own (x γ (s .out)) (sliceVal (b, o) m ∷ []))) (long s) refl $
       nothing ! $ move ! (1 ∷ 0 ∷ []) $ fjoin ! $ nothing ! $ fjoin ! $ nothing ! $ fjoin ! $ nothing ! $ fjoin ! $ frame ! $

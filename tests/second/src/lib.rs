@@ -4,7 +4,7 @@
 //! `figuring`, `book` and `postings` are the rules; `text` and `listing` the
 //! terminal; `accounts` and `audit` the claims about a whole list of calls;
 //! `session` runs a terminal session; `generate` writes sessions for testing;
-//! `asked` reads the arguments of the commands that compare.
+//! `asked` runs the commands that compare.
 
 #![forbid(unsafe_code)]
 

@@ -1,7 +1,7 @@
 //! `compare PROGRAM N [FIRST-SEED]`: holds PROGRAM against this library on N
 //! generated sessions and stops at the first difference.
 
-use second::asked::Asked;
+use second::asked::answered;
 use second::generate::{session, Kind};
 use second::session::Session;
 use second::text::Lines;
@@ -15,25 +15,10 @@ use std::time::Instant;
 const PROGRESS_EVERY: u64 = 25;
 
 fn main() -> ExitCode {
-    let Some(Asked {
-        program,
-        count,
-        seed,
-    }) = Asked::by_arguments()
-    else {
-        eprintln!("usage: compare PROGRAM N [FIRST-SEED]");
-        return ExitCode::from(2);
-    };
-    match compare(&program, count, seed) {
-        Ok(()) => {
-            println!("{count} sessions compared, 0 differences");
-            ExitCode::SUCCESS
-        }
-        Err(difference) => {
-            println!("{difference}");
-            ExitCode::FAILURE
-        }
-    }
+    answered("compare PROGRAM N [FIRST-SEED]", |asked| {
+        compare(&asked.program, asked.count, asked.seed)?;
+        Ok(format!("{} sessions compared, 0 differences", asked.count))
+    })
 }
 
 fn compare(program: &OsStr, count: u64, first_seed: u64) -> Result<(), String> {

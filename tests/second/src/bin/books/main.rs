@@ -12,7 +12,7 @@ mod made;
 
 use calls::{call_of, call_on, kind_of};
 use made::Make;
-use second::asked::Asked;
+use second::asked::answered;
 use second::book::{Book, CELLS, FAMILIES};
 use second::figuring::{FIRST_YEAR, YEARS};
 use second::generate::rng::Rng;
@@ -34,29 +34,13 @@ const BYTES: usize = 8;
 const AHEAD: usize = 16;
 
 fn main() -> ExitCode {
-    let Some(Asked {
-        program,
-        count,
-        seed,
-    }) = Asked::by_arguments()
-    else {
-        eprintln!("usage: books PROGRAM N [SEED]");
-        return ExitCode::from(2);
-    };
-    match compare(&program, count, seed) {
-        Ok(tally) => {
-            eprintln!("{}", tally.by_kind());
-            println!(
-                "{count} books compared, 0 differences ({})",
-                tally.answers()
-            );
-            ExitCode::SUCCESS
-        }
-        Err(difference) => {
-            println!("{difference}");
-            ExitCode::FAILURE
-        }
-    }
+    answered("books PROGRAM N [SEED]", |asked| {
+        let tally = compare(&asked.program, asked.count, asked.seed)?;
+        eprintln!("{}", tally.by_kind());
+        let count = asked.count;
+        let answers = tally.answers();
+        Ok(format!("{count} books compared, 0 differences ({answers})"))
+    })
 }
 
 fn compare(program: &OsStr, count: u64, seed: u64) -> Result<Tally, String> {

@@ -6,7 +6,7 @@ use mathlib.Core.Logic.{_≢_}
 use mathlib.Core.Path.{_≡_, sym, _∙_}
 use native.Mathlib.Omega.{arith}
 use native.Mathlib.Decide.{ℕ-discrete}
-use lib.ListN.{getD, set}
+use lib.ListN.{getD, set, length-set}
 use lib.Seq.{getD-set-same, getD-set-other}
 use lib.IntN.{ℤ, pos, natAbs}
 use Rattle.figuring.specs.Standards.{standardFor, gramsOf}
@@ -34,6 +34,17 @@ here c f d g = go (ℕ-discrete d c) (ℕ-discrete g f)
     go (yes p) (yes q) = yes (p, q)
     go (yes p) (no q) = no (λ h. q (h .1))
     go (no p) q = no (λ h. p (h .0))
+
+-- a part stored anywhere leaves the lists as long as they were
+pub stored-sized : (b : Book) (c f : ℕ) (z : ℤ) → Sized b → Sized (stored b c f z .book)
+unfolding stored
+stored-sized b c f z h =
+    record {
+      marks = simp length-set (h .marks);
+      parts = simp length-set (h .parts);
+      lots = h .lots;
+      shortages = h .shortages;
+    }
 
 -- a part within the bound, stored in a cell of the book
 module _ (b : Book) (c f : ℕ) (z : ℤ) (sized : Sized b) (hc : c < cells) (hf : f < families) where
@@ -66,7 +77,7 @@ module _ (b : Book) (c f : ℕ) (z : ℤ) (sized : Sized b) (hc : c < cells) (hf
       go (yes p) = rw (p, mark-of) (marked-other markBefore f g (λ q. n (p, q)))
       go (no p) = rw (getD-set-other (b .marks) c d (withMark markBefore f) 0 p)
 
-  stored-sound : Sound b → natAbs z ≤ partMost → Sound (stored b c f z .book)
+  pub stored-sound : Sound b → natAbs z ≤ partMost → Sound (stored b c f z .book)
   unfolding stored
   stored-sound s fits =
       record {

@@ -2,12 +2,12 @@
 use Prim.Native.Nat.{ℕ}
 use mathlib.Core.Bool.{true}
 use mathlib.Core.Path.{_≡_}
-use lib.ListN.{length-set, length-replicate}
+use lib.ListN.{length-replicate}
 use lib.IntN.{pos}
 use Rattle.book.specs.Sizes.{cells, allParts}
 use Rattle.book.specs.Soundness.{sound}
 use Rattle.book.specs.Refusals.{firstRefusal}
-use Rattle.book.specs.Postings.{stored, closed, traded, applied, retired}
+use Rattle.book.specs.Postings.{partFor, filingCell, closed, traded, applied, retired}
 use Rattle.book.specs.Rules.{posted, table, done}
 use Rattle.book.specs.Companions.{Sized, KeepsSound}
 use Rattle.book.specs.declared.ledger.Book.{Book}
@@ -19,7 +19,7 @@ use Rattle.book.proofs.CloseFacts.{closable}
 use Rattle.book.proofs.MoveFacts.{tradable, applicable, retirable}
 use Rattle.book.proofs.LedgerLaws.{length-lower, length-raise, netted-length}
 use Rattle.book.proofs.SoundnessLaws.{Sound, is-sound}
-use Rattle.book.proofs.KeptByFiling.{file-sound}
+use Rattle.book.proofs.KeptByFiling.{stored-sized, file-sound}
 use Rattle.book.proofs.KeptByClosing.{close-sound}
 use Rattle.book.proofs.KeptByMoving.{trade-sound, apply-sound, retire-sound}
 
@@ -32,14 +32,8 @@ done-sound b (Call.Apply p) z e = apply-sound b p z (applicable b p e)
 done-sound b (Call.Retire p) z e = retire-sound b p z (retirable b p e)
 
 done-sized : (b : Book) (c : Call) → Sized b → Sized (done b c .book)
-unfolding done stored closed traded applied retired
-done-sized b (Call.File f) z =
-    record {
-      marks = simp length-set (z .marks);
-      parts = simp length-set (z .parts);
-      lots = z .lots;
-      shortages = z .shortages;
-    }
+unfolding done closed traded applied retired
+done-sized b (Call.File f) z = stored-sized b (filingCell f) (f .family) (partFor f) z
 done-sized b (Call.Close y) z =
     record {
       marks = length-replicate {A = ℕ} cells 0;

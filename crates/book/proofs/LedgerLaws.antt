@@ -72,6 +72,19 @@ at-lower l k j n h hk hj b = go (sameKey k j) refl
     go true e = omega (arith, set-at l k j (at l k - n) true e h hk hj, ap (at l) (same-true k j e))
     go false e = omega (arith, set-at l k j (at l k - n) false e h hk hj)
 
+-- what stands at a key of another year is untouched, whatever the list's length
+elsewhere : (l : List ℕ) (k j : Key) (v : ℕ) → In k → In j → k .year ≢ j .year → at (set l (place k) v) j ≡ at l j
+unfolding at
+elsewhere l k j v hk hj h = getD-set-other l (place k) (place j) v 0 (λ e. h (omega arith))
+
+pub lower-elsewhere : (l : List ℕ) (k j : Key) (n : ℕ) → In k → In j → k .year ≢ j .year → at (lower l k n) j ≡ at l j
+unfolding lower
+lower-elsewhere l k j n = elsewhere l k j (at l k - n)
+
+pub raise-elsewhere : (l : List ℕ) (k j : Key) (n : ℕ) → In k → In j → k .year ≢ j .year → at (raise l k n) j ≡ at l j
+unfolding raise
+raise-elsewhere l k j n = elsewhere l k j (at l k + n)
+
 pub length-raise : (l : List ℕ) (k : Key) (n : ℕ) → length (raise l k n) ≡ length l
 unfolding raise
 length-raise l k n = simp length-set

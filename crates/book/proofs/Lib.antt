@@ -11,6 +11,7 @@ pub mod MoveFacts
 pub mod Balances
 pub mod Reconciliation
 pub mod StrikeOut
+pub mod Staying
 pub mod FreshSound
 pub mod KeptSound
 pub mod NeverUnsound

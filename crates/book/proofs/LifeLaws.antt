@@ -67,6 +67,21 @@ pub open-is : (Y y : ℕ) → not (openShort Y y) ≡ false → OpenShort Y y
 unfolding openShort
 open-is Y y e = young-is 4 Y y (not-false (openShort Y y) e)
 
+-- ── an expired lot's year, and an overdue shortage's
+pub record Old (life Y y : ℕ) : Type 0 where
+  pub from : firstYear ≤ y
+  pub old : y + life < Y
+
+pub old-is : (life Y y : ℕ) → (closedYear Y y && ltb (y + life) Y) ≡ true → Old life Y y
+old-is life Y y e =
+    let p = both _ _ e in
+    record { from = closed-is Y y (p .0) .from; old = ltb-true _ _ (p .1) }
+
+pub is-old : (life Y y : ℕ) → Old life Y y → (closedYear Y y && ltb (y + life) Y) ≡ true
+unfolding closedYear
+is-old life Y y h =
+    and-intro (and-intro (le-leb firstYear y (h .from)) (lt-ltb y Y (omega (arith, h)))) (lt-ltb (y + life) Y (h .old))
+
 -- ── what a listing shows: a figure n, read at a cell and year of the book, that is not 0
 pub cell-year : (m s y : ℕ) → isCellYear m s y ≡ true → In (key m s y)
 unfolding isCellYear

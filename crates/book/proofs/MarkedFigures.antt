@@ -1,29 +1,64 @@
 -- The marked figures, P1 to P12: by computing, but for the soundness of the books, which the laws give.
 use mathlib.Core.Bool.{true}
-use mathlib.Core.Path.{_≡_, refl, ap}
+use mathlib.Core.Path.{_≡_, refl, _∙_, ap}
+use native.Mathlib.Omega.{arith}
+use lib.IntN.{pos}
 use Rattle.figuring.specs.Standards.{standardFor, tractor, column, isAbsent}
 use Rattle.figuring.specs.Parts.{withinLimits, between}
 use Rattle.figuring.specs.Netting.{earnedOf}
 use Rattle.figuring.proofs.MarkedLaws as Figuring
 use Rattle.book.specs.Below.{sumBelowℤ}
-use Rattle.book.specs.Ledger.{marked, cellSum}
+use Rattle.book.specs.Ledger.{key, at, marked, cellSum}
 use Rattle.book.specs.Life.{live, expired, openShort, overdue, closedYear}
 use Rattle.book.specs.Soundness.{sound}
 use Rattle.book.specs.Refusals.{numberOf, refusalIn}
 use Rattle.book.specs.Postings.{freshBook, stored, closed, earnedBy}
 use Rattle.book.specs.Rules.{posted, table, done, fileTable, closeTable}
 use Rattle.book.specs.Demand3.{isAccepted}
-use Rattle.book.specs.Marked.{MarkedFigures, lastOpen, twoParts}
+use Rattle.book.specs.Companions.{Sized}
+use Rattle.book.specs.Marked.{MarkedFigures, lastOpen, onePart, twoParts}
 use Rattle.book.specs.declared.ledger.Book.{Book}
 use Rattle.book.specs.declared.kinds.Call.{Call}
 use Rattle.book.specs.declared.answers.Posted.{Posted}
-use Rattle.book.proofs.FreshSound.{fresh-sound, last-sound, last-sized}
+use Rattle.book.proofs.LedgerLaws.{netted-in}
+use Rattle.book.proofs.SoundnessLaws.{Sound, sound-is, is-sound}
+use Rattle.book.proofs.FreshSound.{fresh-sound, fresh-sized, last-sound, last-sized}
+use Rattle.book.proofs.KeptByFiling.{stored-sized, stored-sound}
 use Rattle.book.proofs.KeptSound.{keeps-sound}
 
--- ---- P7, of a close: the parts are added before figuring's P7 rounds them
-two-parts : earnedBy twoParts 0 ≡ 1
-unfolding twoParts cellSum sumBelowℤ earnedOf
-two-parts = ap earnedOf (Figuring.marked-figures .P7)
+-- ---- P7, of a close: the parts are added before figuring's P7 rounds them. The book is sound by the laws.
+one-sized : Sized onePart
+unfolding onePart
+one-sized = stored-sized freshBook 0 0 (pos 4000000) fresh-sized
+
+two-sized : Sized twoParts
+unfolding twoParts
+two-sized = stored-sized onePart 0 1 (pos 4000000) one-sized
+
+two-sound : Sound twoParts
+unfolding twoParts onePart
+two-sound =
+    stored-sound onePart 0 1 (pos 4000000) one-sized (omega arith) (omega arith)
+    (stored-sound freshBook 0 0 (pos 4000000) fresh-sized (omega arith) (omega arith) (sound-is freshBook fresh-sound) (omega arith))
+    (omega arith)
+
+two-earned : earnedBy twoParts 0 ≡ 1
+unfolding twoParts onePart stored freshBook cellSum sumBelowℤ earnedOf
+two-earned = ap earnedOf (Figuring.marked-figures .P7)
+
+close-two : posted twoParts (Call.Close 2014) ≡ closed twoParts
+unfolding posted table closeTable done twoParts onePart stored freshBook
+close-two = rw (is-sound twoParts two-sound)
+
+two-taken : isAccepted (posted twoParts (Call.Close 2014) .answer) ≡ true
+unfolding closed isAccepted
+two-taken = ap (λ (p : Posted). isAccepted (p .answer)) close-two
+
+two-lot : at (posted twoParts (Call.Close 2014) .book .lots) (key 0 0 2014) ≡ 1
+unfolding closed twoParts onePart stored freshBook
+two-lot =
+    ap (λ (p : Posted). at (p .book .lots) (key 0 0 2014)) close-two
+    ∙ netted-in 2014 (earnedBy twoParts) (twoParts .lots) (key 0 0 2014) (two-sized .lots) (omega arith) refl ∙ two-earned
 
 -- ---- P12: the book after the last close is sound by the laws, and its open year is 2038
 close-last : posted lastOpen (Call.Close 2037) ≡ closed lastOpen
@@ -54,7 +89,7 @@ unfolding live expired openShort overdue closedYear posted table fileTable done 
 marked-figures =
     record {
       figuring = Figuring.marked-figures;
-      P7 = two-parts;
+      P7 = (two-taken, two-lot);
       P8 = (refl, refl);
       P9 = (refl, refl);
       P10 = (rw fresh-sound, rw fresh-sound, rw fresh-sound);

@@ -11,7 +11,7 @@ use lib.ListN.{drop}
 use Rattle.figuring.proofs.BoolLaws.{both}
 use Rattle.book.specs.Soundness.{sound}
 use Rattle.book.specs.Refusals.{Row, numberOf, refusalIn, orElse, firstRefusal}
-use Rattle.book.specs.Postings.{freshBook, stored, closed, traded, applied, retired}
+use Rattle.book.specs.Postings.{freshBook}
 use Rattle.book.specs.Rules.{posted, table, done, outcome, fileTable, closeTable, tradeTable, applyTable, retireTable}
 use Rattle.book.specs.Demand3.{bookAfter}
 use Rattle.book.specs.Companions.{Sized, NeverUnsound}
@@ -22,6 +22,7 @@ use Rattle.book.specs.declared.answers.Verdict.{Verdict}
 use Rattle.book.specs.declared.answers.Verdict.the-variants.{Accepted, Refuse}
 use Rattle.book.proofs.FreshSound.{fresh-sound, fresh-sized}
 use Rattle.book.proofs.KeptSound.{keeps}
+use Rattle.book.proofs.RefusalLaws.{done-number}
 
 -- ---- refusal 2
 abbrev numberIn : Verdict → ℕ
@@ -61,14 +62,6 @@ sound-passes b (Call.Close y) s h = pass-first (closeTable b y) (ap not s) refl 
 sound-passes b (Call.Trade t) s h = pass-first (tradeTable b t) (ap not s) refl h
 sound-passes b (Call.Apply p) s h = pass-first (applyTable b p) (ap not s) refl h
 sound-passes b (Call.Retire p) s h = pass-first (retireTable b p) (ap not s) refl h
-
-done-number : (b : Book) (c : Call) → refusalIn (done b c .answer) ≡ 0
-unfolding done stored closed traded applied retired refusalIn
-done-number b (Call.File f) = refl
-done-number b (Call.Close y) = refl
-done-number b (Call.Trade t) = refl
-done-number b (Call.Apply p) = refl
-done-number b (Call.Retire p) = refl
 
 outcome-number : (b : Book) (c : Call) (v : Verdict) → refusalIn (outcome v b (done b c) .answer) ≡ numberIn v
 unfolding refusalIn

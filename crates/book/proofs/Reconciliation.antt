@@ -26,6 +26,7 @@ use Rattle.book.specs.declared.kinds.Application.{Application}
 use Rattle.book.specs.declared.kinds.Retirement.{Retirement}
 use Rattle.book.specs.declared.answers.Verdict.the-variants.{Accepted}
 use Rattle.book.proofs.TableLaws.{by-verdict}
+use Rattle.book.proofs.RefusalLaws.{done-accepted}
 use Rattle.book.proofs.FileFacts.{Fileable, fileable}
 use Rattle.book.proofs.CloseFacts.{Closable, closable}
 use Rattle.book.proofs.MoveFacts.{Tradable, tradable, Applicable, applicable, Retirable, retirable}
@@ -131,14 +132,6 @@ unfolding retired
 keeps-retire b a p h g =
     let paid = tied-out (h .lots) (retiredLot p) (p .mg) (g .payer .lot) (g .payer .enough) in
     record { sums = h .sums; lots = tied-as paid _ _ (λ k. refl) (λ k. omega arith); shortages = h .shortages }
-
-pub done-accepted : (b : Book) (c : Call) → isAccepted (done b c .answer) ≡ true
-unfolding isAccepted done stored closed traded applied retired
-done-accepted b (Call.File f) = refl
-done-accepted b (Call.Close y) = refl
-done-accepted b (Call.Trade t) = refl
-done-accepted b (Call.Apply p) = refl
-done-accepted b (Call.Retire p) = refl
 
 keeps-done :
     (b : Book) (a : Accounts) (c : Call) → Agree b a → firstRefusal (table b c) ≡ Accepted

@@ -1,23 +1,77 @@
--- The numbers in the tables are the paper's: the refusal that a table names by a number has that number.
-use Prim.Native.Nat.{ℕ, _+_, _-_, _≤_}
-use mathlib.Core.Bool.{Bool, true}
-use mathlib.Core.Path.{_≡_, refl}
+-- No refusal has the number 0; the numbers of each table; and what a call answers, refused or accepted.
+use Prim.Native.Nat.{_<_}
+use mathlib.Core.Bool.{true, false, false≢true, true≢false}
+use mathlib.Core.Path.{_≡_, refl, sym, _∙_}
 use native.Mathlib.Omega.{arith}
-use borrow.Author.Tests.{eqb-true}
-use lib.Dec.{eqb}
-use Rattle.book.specs.Below.{allBelow}
-use Rattle.book.specs.Refusals.{numberOf, refusal}
-use Rattle.book.proofs.BelowLaws.{all-at}
+use lib.IntN.{pos}
+use Rattle.book.specs.Refusals.{numberOf, refusalIn, valuesIn, resultIn}
+use Rattle.book.specs.Postings.{stored, closed, traded, applied, retired}
+use Rattle.book.specs.Rules.{posted, done, fileTable, closeTable, tradeTable, applyTable, retireTable, CheckingOrder}
+use Rattle.book.specs.Demand3.{isAccepted}
+use Rattle.book.specs.Companions.{Answers}
+use Rattle.book.specs.declared.ledger.Book.{Book}
+use Rattle.book.specs.declared.kinds.Call.{Call}
+use Rattle.book.specs.declared.answers.Refusal.{Refusal}
+use Rattle.book.specs.declared.answers.Refusal.the-variants.{NotAForm, UnsoundBook, UnknownMaker, UnknownSet, YearNotOpen, NoStandard, UnknownFamily, OutOfLimits, AlreadyFiled, VintageNotLive, ZeroAmount, SameMaker, HasShortage, NoOpenShortage, AboveLot, AboveShortage}
+use Rattle.book.proofs.TableLaws.{by-verdict}
 
-numbered : ℕ → Bool
-numbered i = eqb (numberOf (refusal (i + 1))) (i + 1)
+pub number-above-0 : (r : Refusal) → 0 < numberOf r
+unfolding numberOf
+number-above-0 NotAForm = omega arith
+number-above-0 UnsoundBook = omega arith
+number-above-0 UnknownMaker = omega arith
+number-above-0 UnknownSet = omega arith
+number-above-0 YearNotOpen = omega arith
+number-above-0 NoStandard = omega arith
+number-above-0 UnknownFamily = omega arith
+number-above-0 OutOfLimits = omega arith
+number-above-0 AlreadyFiled = omega arith
+number-above-0 VintageNotLive = omega arith
+number-above-0 ZeroAmount = omega arith
+number-above-0 SameMaker = omega arith
+number-above-0 HasShortage = omega arith
+number-above-0 NoOpenShortage = omega arith
+number-above-0 AboveLot = omega arith
+number-above-0 AboveShortage = omega arith
 
-all-numbered : allBelow 16 numbered ≡ true
-unfolding allBelow numbered numberOf
-all-numbered = refl
+pub checking-order : CheckingOrder
+unfolding fileTable closeTable tradeTable applyTable retireTable numberOf
+checking-order =
+    record { file = λ b f. refl; close = λ b y. refl; trade = λ b t. refl; apply = λ b p. refl; retire = λ b p. refl }
 
-pub number-of-refusal : (n : ℕ) → 1 ≤ n → n ≤ 16 → numberOf (refusal n) ≡ n
-unfolding numbered
-number-of-refusal n l h =
-    let e : n - 1 + 1 ≡ n = omega arith in
-    rw e at (eqb-true (numberOf (refusal (n - 1 + 1))) (n - 1 + 1) (all-at numbered 16 (n - 1) (omega arith) all-numbered))
+-- ---- an accepted call has no refusal's number
+pub done-accepted : (b : Book) (c : Call) → isAccepted (done b c .answer) ≡ true
+unfolding isAccepted done stored closed traded applied retired
+done-accepted b (Call.File f) = refl
+done-accepted b (Call.Close y) = refl
+done-accepted b (Call.Trade t) = refl
+done-accepted b (Call.Apply p) = refl
+done-accepted b (Call.Retire p) = refl
+
+pub done-number : (b : Book) (c : Call) → refusalIn (done b c .answer) ≡ 0
+unfolding done stored closed traded applied retired refusalIn
+done-number b (Call.File f) = refl
+done-number b (Call.Close y) = refl
+done-number b (Call.Trade t) = refl
+done-number b (Call.Apply p) = refl
+done-number b (Call.Retire p) = refl
+
+pub answers : (b : Book) (c : Call) → Answers b c
+unfolding isAccepted refusalIn valuesIn
+answers b c =
+    record {
+      accepted =
+          by-verdict b c (λ p. isAccepted (p .answer) ≡ true → refusalIn (p .answer) ≡ 0) (λ r t. absurd (false≢true t))
+          (λ e t. done-number b c);
+      numbered =
+          by-verdict b c (λ p. isAccepted (p .answer) ≡ false → 0 < refusalIn (p .answer)) (λ r t. number-above-0 r)
+          (λ e t. absurd (impossible t));
+      zeros =
+          by-verdict b c (λ p. isAccepted (p .answer) ≡ false → (i : _) → resultIn (p .answer) i ≡ pos 0) (λ r t i. refl)
+          (λ e t. absurd (impossible t));
+      unchanged =
+          by-verdict b c (λ p. isAccepted (p .answer) ≡ false → p .book ≡ b) (λ r t. refl) (λ e t. absurd (impossible t));
+    }
+  where
+    impossible : isAccepted (done b c .answer) ≡ false → ⊥
+    impossible t = true≢false (sym (done-accepted b c) ∙ t)

@@ -1,21 +1,13 @@
 -- The refused calls of a list may be struck out: a refusal leaves the very book that came in.
-use Prim.Native.Nat.{ℕ}
 use mathlib.Core.Bool.{Bool, true, false}
 use mathlib.Core.List.{List, [], _∷_}
 use mathlib.Core.Path.{_≡_, refl, _∙_}
-use native.Mathlib.Omega.{arith}
 use Rattle.book.specs.Rules.{posted}
 use Rattle.book.specs.Demand3.{isAccepted, bookAfter}
 use Rattle.book.specs.Companions.{keepIf, acceptedOnly, StrikeOut}
 use Rattle.book.specs.declared.ledger.Book.{Book}
 use Rattle.book.specs.declared.kinds.Call.{Call}
-use Rattle.book.proofs.TableLaws.{by-verdict}
-use Rattle.book.proofs.Reconciliation.{done-accepted}
-
-pub refusal-leaves : (b : Book) (c : Call) → isAccepted (posted b c .answer) ≡ false → posted b c .book ≡ b
-refusal-leaves b c =
-    by-verdict b c (λ p. isAccepted (p .answer) ≡ false → p .book ≡ b) (λ r e. refl)
-    (λ k e. absurd (let t : isAccepted _ ≡ true = done-accepted b c in let z : _≡_ {A = ℕ} 0 1 = cc in omega arith))
+use Rattle.book.proofs.RefusalLaws.{answers}
 
 -- a call put to a book, or left out where it was refused, and then the rest
 struck :
@@ -23,7 +15,7 @@ struck :
     → bookAfter b (keepIf t c rest) ≡ bookAfter (posted b c .book) rest
 unfolding bookAfter
 struck b c rest true e = refl
-struck b c rest false e = rw (refusal-leaves b c e)
+struck b c rest false e = rw (answers b c .unchanged e)
 
 pub strike-out : (b : Book) (cs : List Call) → StrikeOut b cs
 unfolding bookAfter acceptedOnly

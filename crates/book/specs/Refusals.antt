@@ -1,5 +1,5 @@
 -- Document 01, "Refusal list": its numbers, and how an ordered table of tests refuses.
-use Prim.Native.Nat.{ℕ, _-_}
+use Prim.Native.Nat.{ℕ}
 use mathlib.Core.Bool.{Bool, true, false}
 use mathlib.Core.List.{List, [], _∷_}
 use lib.IntN.{ℤ, pos}
@@ -53,46 +53,27 @@ refusalIn (Filed p n) = 0
 refusalIn (Closed n) = 0
 refusalIn (Left m) = 0
 
--- the values of an accepted call, in the paper's order (a refusal's, "zero for the other results", are none here): a filing's part and count, a close's cells that closed short,
--- what is left in the paying lot
+-- the values of an accepted call, in the paper's order: a filing's part and count, a close's cells that closed short, what is
+-- left in the paying lot
 unfoldable pub valuesIn : Answer → List ℤ
 valuesIn (Refused r) = []
 valuesIn (Filed p n) = p .0 ∷ pos n ∷ []
 valuesIn (Closed n) = pos n ∷ []
 valuesIn (Left m) = pos (m .0) ∷ []
 
--- the refusals in the paper's order, from 1 on, and the one that has a number of the list
-abbrev pub refusals : List Refusal
-refusals =
-    NotAForm
-    ∷ UnsoundBook
-    ∷ UnknownMaker
-    ∷ UnknownSet
-    ∷ YearNotOpen
-    ∷ NoStandard
-    ∷ UnknownFamily
-    ∷ OutOfLimits
-    ∷ AlreadyFiled
-    ∷ VintageNotLive
-    ∷ ZeroAmount
-    ∷ SameMaker
-    ∷ HasShortage
-    ∷ NoOpenShortage
-    ∷ AboveLot
-    ∷ AboveShortage
-    ∷ []
+-- the result at a place of an answer, from 0 on: its value there, and zero where it has none. So of a refusal, which has no
+-- values, each is "zero for the other results"
+abbrev pub resultIn : Answer → ℕ → ℤ
+resultIn a i = getD (valuesIn a) i (pos 0)
 
-abbrev pub refusal : ℕ → Refusal
-refusal n = getD refusals (n - 1) NotAForm
-
--- one row of a call's table: where its test holds, the refusal of its number
+-- one row of a call's table: a test, and the refusal where it holds
 pub record Row : Type 0 where
   pub test : Bool
   pub why : Refusal
 
 infix 10 _⇒_
-abbrev pub _⇒_ : Bool → ℕ → Row
-t ⇒ n = record { test = t; why = refusal n }
+abbrev pub _⇒_ : Bool → Refusal → Row
+t ⇒ r = record { test = t; why = r }
 
 abbrev pub orElse : Bool → Refusal → Verdict → Verdict
 orElse true r v = Refuse r

@@ -1,8 +1,10 @@
--- Each call's refusals, in the order of document 01's "Refusal list", and what the call gives.
+-- Each call's refusals, in the order of document 01's "Refusal list", and what the call gives. `CheckingOrder` has the
+-- tables by the paper's numbers.
 -- "A call skips the entries that don't concern it." Entries 3 (in a trade), 5 and 14 are two tests, so two rows.
 use Prim.Native.Nat.{ℕ}
 use mathlib.Core.Bool.{not}
 use mathlib.Core.List.{List, [], _∷_}
+use mathlib.Core.Path.{_≡_}
 use lib.Dec.{ltb, leb, eqb}
 use lib.ListN.{getD}
 use Rattle.figuring.specs.Standards.{standardFor, isAbsent}
@@ -11,7 +13,7 @@ use Rattle.book.specs.Sizes.{makers, sets, families, allClosed}
 use Rattle.book.specs.Ledger.{at, marked}
 use Rattle.book.specs.Soundness.{sound}
 use Rattle.book.specs.Life.{live, openShort, hasShortage}
-use Rattle.book.specs.Refusals.{Row, _⇒_, firstRefusal}
+use Rattle.book.specs.Refusals.{Row, _⇒_, firstRefusal, numberOf}
 use Rattle.book.specs.Postings.{filed, closed, traded, applied, retired, filingCell, sellerLot, appliedLot, coveredShortage, retiredLot}
 use Rattle.book.specs.declared.ledger.Book.{Book}
 use Rattle.book.specs.declared.kinds.Call.{Call}
@@ -22,64 +24,65 @@ use Rattle.book.specs.declared.kinds.Retirement.{Retirement}
 use Rattle.book.specs.declared.answers.Answer.{Answer}
 use Rattle.book.specs.declared.answers.Posted.{Posted}
 use Rattle.book.specs.declared.answers.Refusal.{Refusal}
+use Rattle.book.specs.declared.answers.Refusal.the-variants.{UnsoundBook, UnknownMaker, UnknownSet, YearNotOpen, NoStandard, UnknownFamily, OutOfLimits, AlreadyFiled, VintageNotLive, ZeroAmount, SameMaker, HasShortage, NoOpenShortage, AboveLot, AboveShortage}
 use Rattle.book.specs.declared.answers.Verdict.{Verdict}
 use Rattle.book.specs.declared.answers.Verdict.the-variants.{Accepted, Refuse}
 
 unfoldable pub fileTable : Book → Filing → List Row
 fileTable b f =
-    (not (sound b) ⇒ 2)
-    ∷ (leb makers (f .maker) ⇒ 3)
-    ∷ (leb sets (f .set) ⇒ 4)
-    ∷ (not (eqb (f .year) (b .«open_year»)) ⇒ 5)
-    ∷ (eqb (b .«open_year») allClosed ⇒ 5)
-    ∷ (isAbsent (standardFor (f .set) (f .«vehicle_use») (f .year)) ⇒ 6)
-    ∷ (leb families (f .family) ⇒ 7)
-    ∷ (not (withinLimits (f .fcl) (f .cf) (f .volume) (f .life)) ⇒ 8)
-    ∷ (marked (getD (b .marks) (filingCell f) 0) (f .family) ⇒ 9)
+    (not (sound b) ⇒ UnsoundBook)
+    ∷ (leb makers (f .maker) ⇒ UnknownMaker)
+    ∷ (leb sets (f .set) ⇒ UnknownSet)
+    ∷ (not (eqb (f .year) (b .«open_year»)) ⇒ YearNotOpen)
+    ∷ (eqb (b .«open_year») allClosed ⇒ YearNotOpen)
+    ∷ (isAbsent (standardFor (f .set) (f .«vehicle_use») (f .year)) ⇒ NoStandard)
+    ∷ (leb families (f .family) ⇒ UnknownFamily)
+    ∷ (not (withinLimits (f .fcl) (f .cf) (f .volume) (f .life)) ⇒ OutOfLimits)
+    ∷ (marked (getD (b .marks) (filingCell f) 0) (f .family) ⇒ AlreadyFiled)
     ∷ []
 
 unfoldable pub closeTable : Book → ℕ → List Row
 closeTable b y =
-    (not (sound b) ⇒ 2)
-    ∷ (not (eqb y (b .«open_year»)) ⇒ 5)
-    ∷ (eqb (b .«open_year») allClosed ⇒ 5)
+    (not (sound b) ⇒ UnsoundBook)
+    ∷ (not (eqb y (b .«open_year»)) ⇒ YearNotOpen)
+    ∷ (eqb (b .«open_year») allClosed ⇒ YearNotOpen)
     ∷ []
 
 unfoldable pub tradeTable : Book → Trade → List Row
 tradeTable b t =
-    (not (sound b) ⇒ 2)
-    ∷ (leb makers (t .from) ⇒ 3)
-    ∷ (leb makers (t .to) ⇒ 3)
-    ∷ (leb sets (t .set) ⇒ 4)
-    ∷ (not (live (b .«open_year») (t .vintage)) ⇒ 10)
-    ∷ (eqb (t .mg) 0 ⇒ 11)
-    ∷ (eqb (t .from) (t .to) ⇒ 12)
-    ∷ (hasShortage (b .shortages) (t .from) (t .set) ⇒ 13)
-    ∷ (ltb (at (b .lots) (sellerLot t)) (t .mg) ⇒ 15)
+    (not (sound b) ⇒ UnsoundBook)
+    ∷ (leb makers (t .from) ⇒ UnknownMaker)
+    ∷ (leb makers (t .to) ⇒ UnknownMaker)
+    ∷ (leb sets (t .set) ⇒ UnknownSet)
+    ∷ (not (live (b .«open_year») (t .vintage)) ⇒ VintageNotLive)
+    ∷ (eqb (t .mg) 0 ⇒ ZeroAmount)
+    ∷ (eqb (t .from) (t .to) ⇒ SameMaker)
+    ∷ (hasShortage (b .shortages) (t .from) (t .set) ⇒ HasShortage)
+    ∷ (ltb (at (b .lots) (sellerLot t)) (t .mg) ⇒ AboveLot)
     ∷ []
 
 unfoldable pub applyTable : Book → Application → List Row
 applyTable b p =
-    (not (sound b) ⇒ 2)
-    ∷ (leb makers (p .maker) ⇒ 3)
-    ∷ (leb sets (p .set) ⇒ 4)
-    ∷ (not (live (b .«open_year») (p .vintage)) ⇒ 10)
-    ∷ (eqb (p .mg) 0 ⇒ 11)
-    ∷ (not (openShort (b .«open_year») (p .year)) ⇒ 14)
-    ∷ (eqb (at (b .shortages) (coveredShortage p)) 0 ⇒ 14)
-    ∷ (ltb (at (b .lots) (appliedLot p)) (p .mg) ⇒ 15)
-    ∷ (ltb (at (b .shortages) (coveredShortage p)) (p .mg) ⇒ 16)
+    (not (sound b) ⇒ UnsoundBook)
+    ∷ (leb makers (p .maker) ⇒ UnknownMaker)
+    ∷ (leb sets (p .set) ⇒ UnknownSet)
+    ∷ (not (live (b .«open_year») (p .vintage)) ⇒ VintageNotLive)
+    ∷ (eqb (p .mg) 0 ⇒ ZeroAmount)
+    ∷ (not (openShort (b .«open_year») (p .year)) ⇒ NoOpenShortage)
+    ∷ (eqb (at (b .shortages) (coveredShortage p)) 0 ⇒ NoOpenShortage)
+    ∷ (ltb (at (b .lots) (appliedLot p)) (p .mg) ⇒ AboveLot)
+    ∷ (ltb (at (b .shortages) (coveredShortage p)) (p .mg) ⇒ AboveShortage)
     ∷ []
 
 unfoldable pub retireTable : Book → Retirement → List Row
 retireTable b p =
-    (not (sound b) ⇒ 2)
-    ∷ (leb makers (p .maker) ⇒ 3)
-    ∷ (leb sets (p .set) ⇒ 4)
-    ∷ (not (live (b .«open_year») (p .vintage)) ⇒ 10)
-    ∷ (eqb (p .mg) 0 ⇒ 11)
-    ∷ (hasShortage (b .shortages) (p .maker) (p .set) ⇒ 13)
-    ∷ (ltb (at (b .lots) (retiredLot p)) (p .mg) ⇒ 15)
+    (not (sound b) ⇒ UnsoundBook)
+    ∷ (leb makers (p .maker) ⇒ UnknownMaker)
+    ∷ (leb sets (p .set) ⇒ UnknownSet)
+    ∷ (not (live (b .«open_year») (p .vintage)) ⇒ VintageNotLive)
+    ∷ (eqb (p .mg) 0 ⇒ ZeroAmount)
+    ∷ (hasShortage (b .shortages) (p .maker) (p .set) ⇒ HasShortage)
+    ∷ (ltb (at (b .lots) (retiredLot p)) (p .mg) ⇒ AboveLot)
     ∷ []
 
 unfoldable pub table : Book → Call → List Row
@@ -108,3 +111,15 @@ outcome (Refuse r) b p = refusedWith b r
 -- what a call gives: its answer and the book after it, for any book and any call
 unfoldable pub posted : Book → Call → Posted
 posted b c = outcome (firstRefusal (table b c)) b (done b c)
+
+-- ---- the checking order by the paper's numbers, whatever the book and the figures
+abbrev pub numbers : List Row → List ℕ
+numbers [] = []
+numbers (x ∷ xs) = numberOf (x .why) ∷ numbers xs
+
+pub record CheckingOrder : Type 0 where
+  pub file : (b : Book) (f : Filing) → numbers (fileTable b f) ≡ 2 ∷ 3 ∷ 4 ∷ 5 ∷ 5 ∷ 6 ∷ 7 ∷ 8 ∷ 9 ∷ []
+  pub close : (b : Book) (y : ℕ) → numbers (closeTable b y) ≡ 2 ∷ 5 ∷ 5 ∷ []
+  pub trade : (b : Book) (t : Trade) → numbers (tradeTable b t) ≡ 2 ∷ 3 ∷ 3 ∷ 4 ∷ 10 ∷ 11 ∷ 12 ∷ 13 ∷ 15 ∷ []
+  pub apply : (b : Book) (p : Application) → numbers (applyTable b p) ≡ 2 ∷ 3 ∷ 4 ∷ 10 ∷ 11 ∷ 14 ∷ 14 ∷ 15 ∷ 16 ∷ []
+  pub retire : (b : Book) (p : Retirement) → numbers (retireTable b p) ≡ 2 ∷ 3 ∷ 4 ∷ 10 ∷ 11 ∷ 13 ∷ 15 ∷ []

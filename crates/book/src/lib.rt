@@ -1,6 +1,7 @@
 // The book layer of document 01: the book, its postings by value and in place, and what a listing shows of it.
 pub mod answers;
 pub mod applying;
+pub mod claims;
 pub mod closing;
 pub mod filing;
 pub mod in_place;

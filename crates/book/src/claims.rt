@@ -1,0 +1,68 @@
+// The claims of the book layer, each a function whose contract is the statement of specs/ for all its arguments. A theorem that
+// goes missing or is weakened leaves its function here unproved, so the gate holds it.
+ghost use mathlib.Core.Bool.{true};
+ghost use mathlib.Core.List.{List};
+ghost use mathlib.Core.Path.{_≡_};
+ghost use Rattle.book.specs.Ledger.{Key, In};
+ghost use Rattle.book.specs.Rules.{CheckingOrder};
+ghost use Rattle.book.specs.Demand3.{Demand3};
+ghost use Rattle.book.specs.Companions.{Answers, KeepsSound, NeverUnsound, Stays, StrikeOut};
+ghost use Rattle.book.specs.Marked.{MarkedFigures};
+ghost use Rattle.book.specs.declared.ledger.Book.{Book};
+ghost use Rattle.book.specs.declared.kinds.Call.{Call};
+
+// Demand 1: its result or one numbered refusal, which leaves the book as it was.
+pub fn answers() -> bool
+    ensures { λ r. ⌜ (r ≡ true) × ((b : Book) (c : Call) → Answers b c) ⌝ }
+{
+    true
+}
+
+// The tables by the paper's numbers.
+pub fn checking_order() -> bool
+    ensures { λ r. ⌜ (r ≡ true) × CheckingOrder ⌝ }
+{
+    true
+}
+
+// Demand 3.
+pub fn reconciles() -> bool
+    ensures { λ r. ⌜ (r ≡ true) × ((cs : List Call) → Demand3 cs) ⌝ }
+{
+    true
+}
+
+// A call leaves a sound book sound.
+pub fn keeps_sound() -> bool
+    ensures { λ r. ⌜ (r ≡ true) × ((b : Book) (c : Call) → KeepsSound b c) ⌝ }
+{
+    true
+}
+
+// No list begun on a fresh book meets refusal 2.
+pub fn never_unsound() -> bool
+    ensures { λ r. ⌜ (r ≡ true) × ((cs : List Call) → NeverUnsound cs) ⌝ }
+{
+    true
+}
+
+// Refused calls may be struck out.
+pub fn strike_out() -> bool
+    ensures { λ r. ⌜ (r ≡ true) × ((b : Book) (cs : List Call) → StrikeOut b cs) ⌝ }
+{
+    true
+}
+
+// An expired lot and an overdue shortage stay.
+pub fn stays() -> bool
+    ensures { λ r. ⌜ (r ≡ true) × ((b : Book) (cs : List Call) (k : Key) → In k → Stays b cs k) ⌝ }
+{
+    true
+}
+
+// P1 to P12.
+pub fn marked_figures() -> bool
+    ensures { λ r. ⌜ (r ≡ true) × MarkedFigures ⌝ }
+{
+    true
+}

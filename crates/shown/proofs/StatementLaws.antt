@@ -1,0 +1,182 @@
+-- The listing of a book that agrees with accounts is the accounts' statement.
+use Prim.Native.Nat.{ℕ, zero, suc, _+_, _≤_, _<_}
+use native.Mathlib.Decide.{decLe}
+use native.Mathlib.Omega.{arith}
+use mathlib.Core.Bool.{Bool, true, false, _&&_}
+use mathlib.Core.List.{List, [], _∷_, _++_, map, append-assoc}
+use mathlib.Core.Path.{_≡_, refl, sym, _∙_, ap, ap₂}
+use borrow.Author.Tests.{lt-ltb, le-leb, lt-leb}
+use lib.Dec.{ltb, eqb}
+use lib.ListN.{getD, drop}
+use Rattle.figuring.specs.Years.{firstYear, lastYear}
+use Rattle.book.specs.Sizes.{makers, sets, years}
+use Rattle.book.specs.Ledger.{Key, key, In, at}
+use Rattle.book.specs.Life.{closedYear, live, expired, openShort, overdue}
+use Rattle.book.specs.Listing.{isCellYear, lotIf, lotEntry, shortageIf, shortageEntry}
+use Rattle.book.specs.Accounts.{Accounts, move, feed, feedAll}
+use Rattle.book.specs.Postings.{stored, closed, traded, applied, retired}
+use Rattle.book.specs.Rules.{posted, done}
+use Rattle.book.specs.Demand3.{isAccepted, history, bookAfter, Reconciled}
+use Rattle.book.specs.Companions.{keepIf, acceptedOnly}
+use Rattle.book.specs.declared.ledger.Book.{Book}
+use Rattle.book.specs.declared.kinds.Call.{Call}
+use Rattle.book.specs.declared.listing.LotEntry.{LotEntry}
+use Rattle.book.specs.declared.listing.ShortageEntry.{ShortageEntry}
+use Rattle.book.proofs.TableLaws.{by-verdict}
+use Rattle.book.proofs.SoundnessLaws.{Sound}
+use Rattle.book.proofs.RefusalLaws.{done-accepted}
+use Rattle.text.specs.Ascii.{ascii}
+use Rattle.text.specs.Numeral.{numeral}
+use Rattle.text.specs.Pattern.{filled, hash, choose}
+use Rattle.text.specs.Desk.{lineFeed}
+use Rattle.text.specs.Listing.{lotText, shortageText, gather, lotLine, shortageLine, cellText, makerText, listing}
+use Rattle.shown.specs.Statement.{asAccepted, yearAfter, yearFrom, lotBy, shortageBy, Item, lot, short, above0, collect, lotItem, shortItem, cellItems, items, itemLine, printed}
+
+-- ---- the accounts and the open year see the accepted calls alone
+pub accounts-same : (a : Accounts) (b : Book) (cs : List Call) → feedAll a (history b cs) ≡ feedAll a (map asAccepted (acceptedOnly b cs))
+unfolding feedAll history acceptedOnly feed
+accounts-same a b [] = refl
+accounts-same a b (c ∷ cs) = go (isAccepted (posted b c .answer)) (λ x. accounts-same x (posted b c .book) cs)
+  where
+    go :
+        (t : Bool)
+        → ((x : Accounts) → feedAll x (history (posted b c .book) cs) ≡ feedAll x (map asAccepted (acceptedOnly (posted b c .book) cs)))
+        → feedAll (feed a (record { call = c; accepted = t })) (history (posted b c .book) cs)
+        ≡ feedAll a (map asAccepted (keepIf t c (acceptedOnly (posted b c .book) cs)))
+    go true ih = ih (move a c)
+    go false ih = ih a
+
+year-done : (b : Book) (c : Call) → yearAfter c (b .«open_year») ≡ done b c .book .«open_year»
+unfolding done stored closed traded applied retired
+year-done b (Call.File f) = refl
+year-done b (Call.Close y) = refl
+year-done b (Call.Trade t) = refl
+year-done b (Call.Apply p) = refl
+year-done b (Call.Retire p) = refl
+
+year-posted :
+    (b : Book) (c : Call) (rest : List Call)
+    → yearFrom (b .«open_year») (keepIf (isAccepted (posted b c .answer)) c rest) ≡ yearFrom (posted b c .book .«open_year») rest
+unfolding isAccepted yearFrom
+year-posted b c rest =
+    by-verdict b c (λ p. yearFrom (b .«open_year») (keepIf (isAccepted (p .answer)) c rest) ≡ yearFrom (p .book .«open_year») rest)
+    (λ r. refl) (λ e. rw (done-accepted b c) (ap (λ (y : ℕ). yearFrom y rest) (year-done b c)))
+
+pub year-same : (b : Book) (cs : List Call) → bookAfter b cs .«open_year» ≡ yearFrom (b .«open_year») (acceptedOnly b cs)
+unfolding bookAfter acceptedOnly yearFrom
+year-same b [] = refl
+year-same b (c ∷ cs) = year-same (posted b c .book) cs ∙ sym (year-posted b c (acceptedOnly (posted b c .book) cs))
+
+-- ---- one line
+filled-end : (p ns : List ℕ) → filled (p ++ lineFeed ∷ []) ns ≡ filled p ns ++ lineFeed ∷ []
+unfolding filled
+filled-end [] ns = refl
+filled-end (c ∷ p) ns = go (eqb c hash) (filled-end p)
+  where
+    go :
+        (b : Bool) → ((ms : List ℕ) → filled (p ++ lineFeed ∷ []) ms ≡ filled p ms ++ lineFeed ∷ [])
+        → choose b (λ u. numeral (getD ns 0 0) ++ filled (p ++ lineFeed ∷ []) (drop 1 ns)) (λ u. c ∷ filled (p ++ lineFeed ∷ []) ns)
+        ≡ choose b (λ u. numeral (getD ns 0 0) ++ filled p (drop 1 ns)) (λ u. c ∷ filled p ns) ++ lineFeed ∷ []
+    go true ih = rw (ih (drop 1 ns)) (sym (append-assoc (numeral (getD ns 0 0)) (filled p (drop 1 ns)) (lineFeed ∷ [])))
+    go false ih = rw (ih ns)
+
+in-cell : (m s v : ℕ) → m < makers → s < sets → firstYear ≤ v → v ≤ lastYear → isCellYear m s v ≡ true
+unfolding isCellYear
+in-cell m s v hm hs hl hh = rw (lt-ltb m makers hm, lt-ltb s sets hs, le-leb firstYear v hl, le-leb v lastYear hh)
+
+module _ (o m s v : ℕ) (hm : m < makers) (hs : s < sets) (hl : firstYear ≤ v) (hh : v ≤ lastYear) where
+  lot-shown :
+      (n : ℕ) → (0 < n → v < o)
+      → lotText m s v (lotIf (isCellYear m s v && ltb 0 n) (lotIf (live o v) (LotEntry.Live (record { 0 = n })) (lotIf (expired o v) (LotEntry.Expired (record { 0 = n })) LotEntry.NoLot)) LotEntry.NoLot)
+      ≡ printed o (above0 n (lot (key m s v) n))
+  unfolding live expired closedYear printed itemLine
+  lot-shown zero h = rw (in-cell m s v hm hs hl hh)
+  lot-shown (suc n) h = go (decLe o (v + 6))
+    where
+      go :
+          Dec (o ≤ v + 6)
+          → lotText m s v (lotIf (isCellYear m s v && ltb 0 (suc n)) (lotIf (live o v) (LotEntry.Live (record { 0 = suc n })) (lotIf (expired o v) (LotEntry.Expired (record { 0 = suc n })) LotEntry.NoLot)) LotEntry.NoLot)
+          ≡ printed o (above0 (suc n) (lot (key m s v) (suc n)))
+      go (yes d) =
+          rw (in-cell m s v hm hs hl hh, lt-ltb 0 (suc n) (omega arith), le-leb firstYear v hl, lt-ltb v o (h (omega arith)), le-leb o (v + 6) d) (filled-end (ascii "(lot # # # live #)") _)
+      go (no d) =
+          rw (in-cell m s v hm hs hl hh, lt-ltb 0 (suc n) (omega arith), le-leb firstYear v hl, lt-ltb v o (h (omega arith)), lt-leb o (v + 6) (omega arith), lt-ltb (v + 6) o (omega arith)) (filled-end (ascii "(lot # # # expired #)") _)
+
+  shortage-shown :
+      (n : ℕ) → (0 < n → v < o)
+      → shortageText m s v (shortageIf (isCellYear m s v && ltb 0 n) (shortageIf (openShort o v) (ShortageEntry.Open (record { 0 = n })) (shortageIf (overdue o v) (ShortageEntry.Overdue (record { 0 = n })) ShortageEntry.NoShortage)) ShortageEntry.NoShortage)
+      ≡ printed o (above0 n (short (key m s v) n))
+  unfolding openShort overdue closedYear printed itemLine
+  shortage-shown zero h = rw (in-cell m s v hm hs hl hh)
+  shortage-shown (suc n) h = go (decLe o (v + 4))
+    where
+      go :
+          Dec (o ≤ v + 4)
+          → shortageText m s v (shortageIf (isCellYear m s v && ltb 0 (suc n)) (shortageIf (openShort o v) (ShortageEntry.Open (record { 0 = suc n })) (shortageIf (overdue o v) (ShortageEntry.Overdue (record { 0 = suc n })) ShortageEntry.NoShortage)) ShortageEntry.NoShortage)
+          ≡ printed o (above0 (suc n) (short (key m s v) (suc n)))
+      go (yes d) =
+          rw (in-cell m s v hm hs hl hh, lt-ltb 0 (suc n) (omega arith), le-leb firstYear v hl, lt-ltb v o (h (omega arith)), le-leb o (v + 4) d) (filled-end (ascii "(short # # # open #)") _)
+      go (no d) =
+          rw (in-cell m s v hm hs hl hh, lt-ltb 0 (suc n) (omega arith), le-leb firstYear v hl, lt-ltb v o (h (omega arith)), lt-leb o (v + 4) (omega arith), lt-ltb (v + 4) o (omega arith)) (filled-end (ascii "(short # # # overdue #)") _)
+
+-- ---- all lines
+printed-append : (o : ℕ) (xs ys : List Item) → printed o (xs ++ ys) ≡ printed o xs ++ printed o ys
+unfolding printed
+printed-append o [] ys = refl
+printed-append o (x ∷ xs) ys = rw (printed-append o xs ys) (sym (append-assoc (itemLine o x) (lineFeed ∷ printed o xs) (printed o ys)))
+
+-- what is gathered line by line is what is collected, printed
+gather-printed :
+    (o n : ℕ) (f : ℕ → List ℕ) (g : ℕ → List Item) → ((i : ℕ) → i < n → f i ≡ printed o (g i))
+    → gather n f ≡ printed o (collect n g)
+unfolding gather collect printed
+gather-printed o zero f g h = refl
+gather-printed o (suc n) f g h =
+    ap₂ _++_ (gather-printed o n f g (λ i l. h i (omega arith))) (h n (omega arith)) ∙ sym (printed-append o (collect n g) (g n))
+
+module _ (b : Book) (a : Accounts) (w : Sound b) (r : (k : Key) → In k → Reconciled b a k) where
+  -- a figure above 0 is of a closed year
+  lot-closed : (k : Key) → In k → 0 < at (b .lots) k → k .year < b .«open_year»
+  lot-closed k i h = go (decLe (b .«open_year») (k .year))
+    where
+      go : Dec (b .«open_year» ≤ k .year) → k .year < b .«open_year»
+      go (yes l) = absurd (omega (arith, w .ahead k i l .0))
+      go (no l) = omega arith
+
+  shortage-closed : (k : Key) → In k → 0 < at (b .shortages) k → k .year < b .«open_year»
+  shortage-closed k i h = go (decLe (b .«open_year») (k .year))
+    where
+      go : Dec (b .«open_year» ≤ k .year) → k .year < b .«open_year»
+      go (yes l) = absurd (omega (arith, w .ahead k i l .1))
+      go (no l) = omega arith
+
+  module _ (m s : ℕ) (hm : m < makers) (hs : s < sets) where
+    lot-line : (i : ℕ) → i < years → lotLine (b .«open_year») (b .lots) m s i ≡ printed (b .«open_year») (lotItem a m s i)
+    unfolding lotLine lotEntry
+    lot-line i hi =
+        let k : Key = key m s (firstYear + i) in
+        let j : In k = omega arith in
+        let e : at (b .lots) k ≡ lotBy a k = omega (arith, r k j .lot) in
+        lot-shown (b .«open_year») m s (firstYear + i) hm hs (omega arith) (omega arith) (at (b .lots) k) (lot-closed k j)
+        ∙ ap (λ (n : ℕ). printed (b .«open_year») (above0 n (lot k n))) e
+
+    shortage-line : (i : ℕ) → i < years → shortageLine (b .«open_year») (b .shortages) m s i ≡ printed (b .«open_year») (shortItem a m s i)
+    unfolding shortageLine shortageEntry
+    shortage-line i hi =
+        let k : Key = key m s (firstYear + i) in
+        let j : In k = omega arith in
+        let e : at (b .shortages) k ≡ shortageBy a k = omega (arith, r k j .shortage) in
+        shortage-shown (b .«open_year») m s (firstYear + i) hm hs (omega arith) (omega arith) (at (b .shortages) k) (shortage-closed k j)
+        ∙ ap (λ (n : ℕ). printed (b .«open_year») (above0 n (short k n))) e
+
+    cell-same : cellText b m s ≡ printed (b .«open_year») (cellItems a m s)
+    unfolding cellText cellItems
+    cell-same =
+        ap₂ _++_ (gather-printed _ years _ (lotItem a m s) lot-line) (gather-printed _ years _ (shortItem a m s) shortage-line)
+        ∙ sym (printed-append (b .«open_year») (collect years (lotItem a m s)) (collect years (shortItem a m s)))
+
+  pub listing-is : listing b ≡ printed (b .«open_year») (items a)
+  unfolding listing makerText items
+  listing-is =
+      gather-printed _ makers _ (λ m. collect sets (cellItems a m))
+      (λ m hm. gather-printed _ sets _ (cellItems a m) (λ s hs. cell-same m s hm hs))

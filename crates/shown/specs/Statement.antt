@@ -1,0 +1,97 @@
+-- The statement that postings come to: a function of the accepted calls, by their accounts, and of no book.
+use Prim.Native.Nat.{ℕ, zero, suc, _+_, _-_, _*_}
+use mathlib.Core.Bool.{true, cond}
+use mathlib.Core.List.{List, [], _∷_, _++_, map}
+use lib.Dec.{leb}
+use Rattle.figuring.specs.Years.{firstYear}
+use Rattle.book.specs.Sizes.{makers, sets, years}
+use Rattle.book.specs.Ledger.{Key, key, cell}
+use Rattle.book.specs.Accounts.{Accounts, Entry, accountsOf}
+use Rattle.book.specs.declared.kinds.Call.{Call}
+use Rattle.text.specs.Ascii.{ascii}
+use Rattle.text.specs.Pattern.{filled}
+use Rattle.text.specs.Desk.{lineFeed}
+
+-- the accounts of postings, each entered as accepted
+abbrev pub asAccepted : Call → Entry
+asAccepted c = record { call = c; accepted = true }
+
+unfoldable pub accountsBy : List Call → Accounts
+accountsBy ps = accountsOf (map asAccepted ps)
+
+-- the open year that postings come to: one more for each close
+abbrev pub yearAfter : Call → ℕ → ℕ
+yearAfter (Call.File f) Y = Y
+yearAfter (Call.Close y) Y = Y + 1
+yearAfter (Call.Trade t) Y = Y
+yearAfter (Call.Apply p) Y = Y
+yearAfter (Call.Retire p) Y = Y
+
+unfoldable pub yearFrom : ℕ → List Call → ℕ
+yearFrom Y [] = Y
+yearFrom Y (c ∷ cs) = yearFrom (yearAfter c Y) cs
+
+abbrev pub yearBy : List Call → ℕ
+yearBy ps = yearFrom firstYear ps
+
+-- what a lot and a shortage come to by the accounts. No difference here stops at zero: `Tells .exactly` of Shown
+abbrev pub lotBy : Accounts → Key → ℕ
+lotBy a k = a .earned k + a .bought k - (a .sold k + a .applied k + a .retired k)
+
+abbrev pub shortageBy : Accounts → Key → ℕ
+shortageBy a k = a .shortfall k - a .covered k
+
+-- a line of the statement: a lot or a shortage, with its Mg
+pub data Item : Type 0 where
+  lot : Key → ℕ → Item
+  short : Key → ℕ → Item
+
+-- no line for 0 Mg
+abbrev pub above0 : ℕ → Item → List Item
+above0 zero x = []
+above0 (suc n) x = x ∷ []
+
+-- f 0, then f 1, up to the one before f n
+unfoldable pub collect : ℕ → (ℕ → List Item) → List Item
+collect zero f = []
+collect (suc n) f = collect n f ++ f n
+
+-- a cell's lots, then its shortages, by year; i counts the years from the first
+abbrev pub lotItem : Accounts → ℕ → ℕ → ℕ → List Item
+lotItem a m s i = let k = key m s (firstYear + i) in above0 (lotBy a k) (lot k (lotBy a k))
+
+abbrev pub shortItem : Accounts → ℕ → ℕ → ℕ → List Item
+shortItem a m s i = let k = key m s (firstYear + i) in above0 (shortageBy a k) (short k (shortageBy a k))
+
+unfoldable pub cellItems : Accounts → ℕ → ℕ → List Item
+cellItems a m s = collect years (lotItem a m s) ++ collect years (shortItem a m s)
+
+-- makers rising, then sets
+unfoldable pub items : Accounts → List Item
+items a = collect makers (λ m. collect sets (cellItems a m))
+
+-- an item's place in the order: makers rising, then sets; of a cell the lots by year, then the shortages by year
+abbrev pub rank : Item → ℕ
+rank (lot k n) = cell (k .maker) (k .kind) * (years + years) + (k .year - firstYear)
+rank (short k n) = cell (k .maker) (k .kind) * (years + years) + years + (k .year - firstYear)
+
+-- a line's form: a lot of vintage v is live up to the open year v + 6, a shortage of year y open up to the open year y + 4
+abbrev pub itemPattern : ℕ → Item → List ℕ
+itemPattern Y (lot k n) = cond (leb Y (k .year + 6)) (ascii "(lot # # # live #)") (ascii "(lot # # # expired #)")
+itemPattern Y (short k n) = cond (leb Y (k .year + 4)) (ascii "(short # # # open #)") (ascii "(short # # # overdue #)")
+
+-- and its figures: maker, set, year, Mg
+abbrev pub itemFigures : Item → List ℕ
+itemFigures (lot k n) = k .maker ∷ k .kind ∷ k .year ∷ n ∷ []
+itemFigures (short k n) = k .maker ∷ k .kind ∷ k .year ∷ n ∷ []
+
+unfoldable pub itemLine : ℕ → Item → List ℕ
+itemLine Y x = filled (itemPattern Y x) (itemFigures x)
+
+unfoldable pub printed : ℕ → List Item → List ℕ
+printed Y [] = []
+printed Y (x ∷ xs) = itemLine Y x ++ lineFeed ∷ printed Y xs
+
+-- what postings come to, printed
+abbrev pub statement : List Call → List ℕ
+statement ps = printed (yearBy ps) (items (accountsBy ps))

@@ -1,6 +1,6 @@
 -- Each example by computation.
 use mathlib.Core.Path.{refl}
-use Rattle.book.specs.Refusals.{numberOf}
+use Rattle.book.specs.Refusals.{numberOf, refusalIn, valuesIn}
 use Rattle.text.specs.Numeral.{leading, worth, value, number, numeralOf}
 use Rattle.text.specs.Pattern.{fit, figures, filled}
 use Rattle.text.specs.Line.{lineOf}
@@ -9,7 +9,7 @@ use Rattle.text.specs.Lines.{linesFrom}
 use Rattle.text.specs.Examples.{Run, Edges}
 
 pub run : Run
-unfolding lineOf figures fit number leading value worth textOf filled numeralOf numberOf
+unfolding lineOf figures fit number leading value worth textOf refusalIn valuesIn filled numeralOf numberOf
 run =
     record {
       file = refl;

@@ -1,5 +1,5 @@
 -- Document 01: "answers each line with `(ok ..)` with the results in the order above or `(no N)`".
-use Prim.Native.Nat.{ℕ, suc}
+use Prim.Native.Nat.{ℕ, zero, suc}
 use mathlib.Core.Path.{_≡_}
 use mathlib.Core.List.{List, [], _∷_, _++_}
 use lib.IntN.{ℤ, pos, negsuc}
@@ -8,13 +8,12 @@ use Rattle.book.specs.declared.kinds.Call.{Call}
 use Rattle.book.specs.declared.answers.Posted.{Posted}
 use Rattle.book.specs.declared.answers.Refusal.{Refusal}
 use Rattle.book.specs.declared.answers.Answer.{Answer}
-use Rattle.book.specs.Refusals.{numberOf, valuesIn}
+use Rattle.book.specs.Refusals.{refusalIn, valuesIn}
 use Rattle.book.specs.Rules.{posted, refusedWith}
 use Rattle.text.specs.declared.lines.Line.{Line}
 use Rattle.text.specs.declared.answering.Step.{Step}
 use Rattle.text.specs.Ascii.{ascii}
 use Rattle.text.specs.Numeral.{numeral}
-use Rattle.text.specs.Pattern.{filled}
 use Rattle.text.specs.Line.{lineOf}
 use Rattle.text.specs.Rendered.{IsText, NoText}
 use Rattle.text.specs.Placing.{Stands}
@@ -23,17 +22,24 @@ use Rattle.text.specs.Placing.{Stands}
 abbrev pub answerRoom : ℕ
 answerRoom = 64
 
--- a filing's part, a negative one with its minus, and its count
-abbrev pub filedText : ℤ → ℕ → List ℕ
-filedText (pos n) k = filled (ascii "(ok # #)\n") (n ∷ k ∷ [])
-filedText (negsuc n) k = filled (ascii "(ok -# #)\n") (suc n ∷ k ∷ [])
+-- a signed number, a negative one with its minus
+abbrev pub signed : ℤ → List ℕ
+signed (pos n) = numeral n
+signed (negsuc n) = ascii "-" ++ numeral (suc n)
 
--- an answer's line
+-- each value after a space, and then the end
+abbrev pub spaced : List ℤ → List ℕ → List ℕ
+spaced [] end = end
+spaced (v ∷ vs) end = ascii " " ++ (signed v ++ spaced vs end)
+
+-- a line by a refusal's number, 0 where there is none, and by values in the paper's order
+abbrev pub saidFor : ℕ → List ℤ → List ℕ
+saidFor zero vs = ascii "(ok" ++ spaced vs (ascii ")\n")
+saidFor (suc n) vs = ascii "(no " ++ (numeral (suc n) ++ ascii ")\n")
+
+-- an answer's line: the book layer says which number and which values a case has
 unfoldable pub textOf : Answer → List ℕ
-textOf (Answer.Refused r) = filled (ascii "(no #)\n") (numberOf r ∷ [])
-textOf (Answer.Filed p k) = filedText (p .0) k
-textOf (Answer.Closed k) = filled (ascii "(ok #)\n") (k ∷ [])
-textOf (Answer.Left m) = filled (ascii "(ok #)\n") (m .0 ∷ [])
+textOf a = saidFor (refusalIn a) (valuesIn a)
 
 -- what a line gives that is read so: the book layer's outcome; or refusal 1, "the line isn't one of the forms", and the book unchanged
 abbrev pub postedLine : Book → Line → Posted
@@ -53,24 +59,3 @@ pub record ByText : Type 0 where
 pub record Answered (b : Book) (s out : List ℕ) (at : ℕ) (r : Step) (out′ : List ℕ) : Type 0 where
   pub book-is : r .book ≡ answerTo b s .book
   pub stands : Stands (textOf (answerTo b s .answer)) at out (r .at) out′
-
--- ---- a text says what the book layer's definition of an answer's values says
--- a signed number, a negative one with its minus
-abbrev pub signed : ℤ → List ℕ
-signed (pos n) = numeral n
-signed (negsuc n) = ascii "-" ++ numeral (suc n)
-
--- each value after a space, and then the end
-abbrev pub spaced : List ℤ → List ℕ → List ℕ
-spaced [] end = end
-spaced (v ∷ vs) end = ascii " " ++ (signed v ++ spaced vs end)
-
--- `(ok ..)` with an answer's values, in the paper's order
-abbrev pub okText : Answer → List ℕ
-okText a = ascii "(ok" ++ spaced (valuesIn a) (ascii ")\n")
-
-pub record Says : Type 0 where
-  pub refused : (r : Refusal) → textOf (Answer.Refused r) ≡ ascii "(no " ++ (numeral (numberOf r) ++ ascii ")\n")
-  pub filed : (z : ℤ) (k : ℕ) → textOf (Answer.Filed (record { 0 = z }) k) ≡ okText (Answer.Filed (record { 0 = z }) k)
-  pub closed : (k : ℕ) → textOf (Answer.Closed k) ≡ okText (Answer.Closed k)
-  pub left : (n : ℕ) → textOf (Answer.Left (record { 0 = n })) ≡ okText (Answer.Left (record { 0 = n }))

@@ -2,7 +2,8 @@
 ghost use mathlib.Core.Path.{_≡_};
 ghost use Prim.Native.Nat.{_+_, _≤_};
 ghost use lib.ListN.{length};
-ghost use Rattle.text.specs.Answers.{Answered, answerRoom, answerTo, filedText, postedLine, textOf};
+ghost use Rattle.book.specs.declared.answers.Answer.{Answer};
+ghost use Rattle.text.specs.Answers.{Answered, answerRoom, answerTo, postedLine, textOf};
 ghost use Rattle.text.specs.Placing.{Puts, Stands, roomFor};
 use crate::lines::Line;
 use crate::patterns::fill;
@@ -47,7 +48,7 @@ pub fn line_in(book: &mut Book, line: Line) -> Answer
 // Puts the answer to a filing: its part, a negative one with its minus, and its count.
 fn put_filed(out: &mut [u8], at: usize, part: i64, k: u64) -> usize
     requires { ⌜ at + answerRoom ≤ length (now out) ⌝ }
-    ensures { λ r. ⌜ Stands (filedText part k) at (now (out .entry)) r (now (out .exit)) ⌝ }
+    ensures { λ r. ⌜ Stands (textOf (Answer.Filed (record { 0 = part }) k)) at (now (out .entry)) r (now (out .exit)) ⌝ }
 {
     let m = size_of(part);
     if part < 0 {

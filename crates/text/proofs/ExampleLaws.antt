@@ -3,13 +3,13 @@ use mathlib.Core.Path.{refl}
 use Rattle.book.specs.Refusals.{numberOf, refusalIn, valuesIn}
 use Rattle.text.specs.Numeral.{leading, worth, value, number, numeralOf}
 use Rattle.text.specs.Pattern.{fit, figures, filled}
-use Rattle.text.specs.Line.{lineOf}
+use Rattle.text.specs.Line.{lineAt, lineOf}
 use Rattle.text.specs.Answers.{textOf}
 use Rattle.text.specs.Lines.{linesFrom}
 use Rattle.text.specs.Examples.{Run, Edges}
 
 pub run : Run
-unfolding lineOf figures fit number leading value worth textOf refusalIn valuesIn filled numeralOf numberOf
+unfolding lineOf lineAt figures fit number leading value worth textOf refusalIn valuesIn filled numeralOf numberOf
 run =
     record {
       file = refl;
@@ -27,7 +27,7 @@ run =
     }
 
 pub edges : Edges
-unfolding lineOf figures fit number leading value worth linesFrom
+unfolding lineOf lineAt figures fit number leading value worth linesFrom
 edges =
     record {
       zero = refl;
@@ -41,6 +41,8 @@ edges =
       space-after = refl;
       carriage-return = refl;
       other-order = refl;
+      rest-of-160 = refl;
+      rest-of-161 = refl;
       empty-line = refl;
       empty-end = refl;
       no-input = refl;

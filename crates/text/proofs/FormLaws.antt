@@ -12,7 +12,7 @@ use Rattle.figuring.proofs.BoolLaws.{both}
 use Rattle.book.specs.declared.kinds.Call.{Call}
 use Rattle.text.specs.declared.lines.Line.{Line}
 use Rattle.text.specs.Pattern.{fit, filled, places, figures, figuresOf, padded}
-use Rattle.text.specs.Line.{Form, file, close, trade, apply, retire, forms, firstForm, lineIf, lineOf, longestLine, mostDigits}
+use Rattle.text.specs.Line.{Form, file, close, trade, apply, retire, forms, firstForm, lineIf, lineAt, lineOf, longestLine, mostDigits}
 use Rattle.text.specs.Rendered.{formOf, figuresIn, rendered, Small, IsText, NoText, Reads}
 use Rattle.text.specs.Answers.{answerTo, postedLine, ByText}
 use Rattle.text.proofs.RenderLaws.{fit-fills, fills-fit, separate, apart, apart-unfit}
@@ -88,7 +88,7 @@ accepted (f ∷ fs) a s c e = go (fit mostDigits (f .pattern) s) refl e (accepte
         (rw (g, n) (w .text), rw n (w .small))
 
 only : (s : List ℕ) (c : Call) → lineOf s ≡ Line.Form c → IsText s c
-unfolding lineOf
+unfolding lineOf lineAt
 only s c e = go (ltb longestLine (length s)) refl e
   where
     go : (b : Bool) → ltb longestLine (length s) ≡ b → lineIf b Line.NoForm (firstForm forms s) ≡ Line.Form c → IsText s c
@@ -124,7 +124,7 @@ read-back :
     → length (filled (f .pattern) ns) ≤ longestLine
     → forms ≡ gs ++ f ∷ fs
     → lineOf (filled (f .pattern) ns) ≡ Line.Form (f .call (padded ns))
-unfolding lineOf
+unfolding lineOf lineAt
 read-back gs f fs ns a p l h n e =
     rw (le-ltb longestLine (length (filled (f .pattern) ns)) n)
     (ap (λ (x : List Form). firstForm x (filled (f .pattern) ns)) e ∙ chosen gs f fs ns a (fills-fit mostDigits (lit≤ tt) (lit≤ tt) (f .pattern) ns p l h))

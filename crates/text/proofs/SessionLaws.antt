@@ -11,7 +11,7 @@ use lib.Seq.{take-all, take-append-le, length-take-le}
 use borrow.Author.Tests.{lt-ltb, ne-eqb}
 use Rattle.book.specs.Postings.{freshBook}
 use Rattle.book.specs.declared.ledger.Book.{Book}
-use Rattle.text.specs.Line.{lineOf, longestLine}
+use Rattle.text.specs.Line.{lineAt, lineOf, longestLine}
 use Rattle.text.specs.Answers.{answerTo, textOf}
 use Rattle.text.specs.Desk.{Terminal, takes, takesAll, ends, answering, holding, terminalIf, mostHeld, lineFeed}
 use Rattle.text.specs.Lines.{linesFrom, lastLine, OneLine, Lines, answersTo, bookAfter}
@@ -28,7 +28,7 @@ abbrev cut : List ℕ → List ℕ
 cut l = take mostHeld l
 
 cut-line : (l : List ℕ) → lineOf (cut l) ≡ lineOf l
-unfolding lineOf
+unfolding lineOf lineAt
 cut-line l = go (decLe (length l) mostHeld)
   where
     go : Dec (length l ≤ mostHeld) → lineOf (cut l) ≡ lineOf l

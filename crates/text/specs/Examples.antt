@@ -2,8 +2,9 @@
 -- what lies at the edges of a form.
 use Prim.Native.Nat.{ℕ}
 use mathlib.Core.Path.{_≡_}
-use mathlib.Core.List.{List, [], _∷_}
+use mathlib.Core.List.{List, [], _∷_, _++_}
 use lib.IntN.{pos, negsuc}
+use lib.ListN.{replicate}
 use Rattle.book.specs.declared.kinds.Call.{Call}
 use Rattle.book.specs.declared.answers.Answer.{Answer}
 use Rattle.book.specs.declared.answers.Refusal.{Refusal}
@@ -11,7 +12,7 @@ use Rattle.book.specs.declared.listing.LotEntry.{LotEntry}
 use Rattle.book.specs.declared.listing.ShortageEntry.{ShortageEntry}
 use Rattle.text.specs.declared.lines.Line.{Line}
 use Rattle.text.specs.Ascii.{ascii}
-use Rattle.text.specs.Line.{lineOf}
+use Rattle.text.specs.Line.{lineAt, lineOf}
 use Rattle.text.specs.Answers.{textOf}
 use Rattle.text.specs.Lines.{linesOf}
 use Rattle.text.specs.Listing.{lotText, shortageText}
@@ -50,6 +51,9 @@ pub record Edges : Type 0 where
   pub space-after : NoForm (ascii "(close (year 2014)) ")
   pub carriage-return : NoForm (ascii "(close (year 2014))\r")
   pub other-order : NoForm (ascii "(apply (maker 1) (set 3) (year 2014) (vintage 2014) (mg 261))")
+  -- a form at a place of a line of 160 bytes, and of a line of 161
+  pub rest-of-160 : lineAt (replicate 141 32 ++ ascii "(close (year 2014))") 141 ≡ Line.Form (Call.Close 2014)
+  pub rest-of-161 : lineAt (replicate 142 32 ++ ascii "(close (year 2014))") 142 ≡ Line.NoForm
   pub empty-line : linesOf (ascii "a\n\nb") ≡ ascii "a" ∷ [] ∷ ascii "b" ∷ []
   pub empty-end : linesOf (ascii "a\n") ≡ ascii "a" ∷ []
   pub no-input : linesOf [] ≡ []

@@ -70,10 +70,11 @@ firstForm (f ∷ fs) s =
     let r = figures mostDigits (f .pattern) s in
     lineIf (r .fits) (Line.Form (f .call (r .n))) (firstForm fs s)
 
--- what a line is read as, for any bytes. A longer line is no form "as a whole"
-unfoldable pub lineOf : List ℕ → Line
-lineOf s = lineIf (ltb longestLine (length s)) Line.NoForm (firstForm forms s)
+-- what stands from a place of a line on, to the line's end. The limit is the line's: a longer one is no form "as a whole",
+-- wherever it is read from
+unfoldable pub lineAt : List ℕ → ℕ → Line
+lineAt s place = lineIf (ltb longestLine (length s)) Line.NoForm (firstForm forms (drop place s))
 
--- what the text from a place of a line on is read as; the limit of 160 bytes counts from that place
-abbrev pub lineAt : List ℕ → ℕ → Line
-lineAt s place = lineOf (drop place s)
+-- what a line is read as, for any bytes
+unfoldable pub lineOf : List ℕ → Line
+lineOf s = lineAt s 0

@@ -1,6 +1,6 @@
 // The five forms of document 01: a line to a call.
 ghost use mathlib.Core.Path.{_≡_};
-ghost use Rattle.text.specs.Line.{lineOf, lineAt, file, close, trade, apply, retire};
+ghost use Rattle.text.specs.Line.{lineAt, firstForm, forms, file, close, trade, apply, retire};
 use crate::patterns::MOST_PLACES;
 use crate::patterns::fitted;
 use book::kinds::Application;
@@ -77,23 +77,24 @@ fn retire_of(n: [u64; MOST_PLACES]) -> Call
     })
 }
 
-// What stands from a place of a line on, for any bytes and any place.
+// What stands from a place of a line on, for any bytes (without the line feed) and any place. The limit is the line's: a longer
+// one is no form, wherever it is read from.
 pub fn form_at(line: &[u8], at: usize) -> Line
     ensures { λ r. ⌜ r ≡ lineAt (now (line .entry)) at ⌝ }
 {
+    if LONGEST_LINE < line.len() {
+        return Line::NoForm;
+    }
     if line.len() < at {
         return Line::NoForm;
     }
     form_of(&line[at..])
 }
 
-// The call that a text is, for any bytes (without the line feed).
+// The first of the forms that a text fits, however long it is.
 fn form_of(line: &[u8]) -> Line
-    ensures { λ r. ⌜ r ≡ lineOf (now (line .entry)) ⌝ }
+    ensures { λ r. ⌜ r ≡ firstForm forms (now (line .entry)) ⌝ }
 {
-    if LONGEST_LINE < line.len() {
-        return Line::NoForm;
-    }
     let file = fitted(
         b"(file (maker #) (set #) (year #) (use #) (family #) (fcl #) (cf #) (volume #) (life #))",
         line,

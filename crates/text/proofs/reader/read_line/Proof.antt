@@ -3,7 +3,7 @@
 use contract.Running.{givenOf, tables, tablesOf}
 use denote.Triple.Spec.{tripleOf}
 use denote.Triple.Table.{entered, cited}
-use Rattle.text.specs.Line.{lineAt}
+use Rattle.text.specs.Line.{lineAt, lineOf}
 use Rattle.text.proofs.ReaderWalk.{Returned, of-enum, New, Taken, reads}
 use Rattle.text.proofs.lines.Line as R
 use Rattle.text.proofs.lines.Line.Laws as R′
@@ -22,7 +22,7 @@ abbrev returned : Returned
 returned = of-enum R.the-type R′.the-laws tt
 
 pub read-line-spec : {M : Type 1} → stated.statement M
-unfolding code.routine tablesOf
+unfolding code.routine tablesOf lineOf
 read-line-spec 𝓤 H 𝓜 𝓖 𝓡 =
     entered 𝓤 H (tripleOf 𝓤 H (𝓖 .A) f.signature (f.spec 𝓤 H (𝓖 .A) (𝓜 .mem) (𝓡 .run)))
     (tables 𝓤 H 𝓜 𝓡 code.env .C) (tables 𝓤 H 𝓜 𝓡 code.env .Λ) #own code.function (code.unfolded 𝓤 H 𝓜 𝓡)

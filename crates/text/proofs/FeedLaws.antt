@@ -3,7 +3,7 @@ use Prim.Native.Nat.{ℕ, _≤_, min}
 use native.Mathlib.Decide.{decLe}
 use native.Mathlib.Omega.{arith}
 use mathlib.Core.Bool.{Bool, true, false, true≢false}
-use mathlib.Core.Path.{_≡_, refl, sym, subst, _∙_}
+use mathlib.Core.Path.{_≡_, refl, sym, ap, subst, _∙_}
 use mathlib.Core.List.{List, []}
 use lib.Dec.{ltb}
 use lib.ListN.{length, take}
@@ -16,7 +16,7 @@ use Rattle.text.specs.declared.serving.Turn.{Turn}
 use Rattle.text.specs.declared.serving.Served.{Served}
 use Rattle.text.specs.Serving.{goesOn, NextLine, ServedBy}
 use Rattle.text.specs.Answers.{answerTo, answerRoom, Answered}
-use Rattle.text.specs.Desk.{Terminal, takesAll, ends, atDesk, mostHeld, Serves, FedBy}
+use Rattle.text.specs.Desk.{Terminal, takesAll, ends, terminalIf, atDesk, mostHeld, Serves, FedBy, ByWhatIsHeld}
 use Rattle.text.proofs.AnswerLaws.{text-length}
 use Rattle.text.proofs.StoreLaws.{same-long}
 
@@ -89,3 +89,16 @@ module _ (d : Desk) (n : ℕ) (h : length (d .held) ≡ mostHeld) (m : n ≡ min
         at-in = o;
         at-counts = sym (length-take-le (r .at) out′ o);
       }))
+
+-- ---- two desks that hold the same
+pub by-what-is-held : ByWhatIsHeld
+by-what-is-held room t d e out r out₁ s out₂ h f g =
+    let same : terminalIf room (t (atDesk e)) (atDesk e) ≡ terminalIf room (t (atDesk d)) (atDesk d) = ap (λ (u : Terminal). terminalIf room (t u) u) (sym h) in
+    let k : Serves (terminalIf room (t (atDesk d)) (atDesk d)) out s out₂ = subst (λ (u : Terminal). Serves u out s out₂) same (g .serves) in
+    record {
+      same-fits = f .fits-is ∙ sym (g .fits-is);
+      same-at = f .serves .at-is ∙ sym (k .at-is);
+      same-out = f .serves .out-is ∙ sym (k .out-is);
+      same-held = rw (f .serves .book-is, f .serves .held-is, k .book-is, k .held-is);
+      same-len = λ q. f .len-is (sym (f .fits-is) ∙ q) ∙ ap (λ (u : Terminal). length (t u .held)) h ∙ sym (g .len-is (sym (f .fits-is) ∙ q));
+    }

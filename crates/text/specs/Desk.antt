@@ -82,3 +82,22 @@ pub record FedBy (room : Bool) (d : Desk) (t : Terminal) (out : List ℕ) (r : F
   pub serves : Serves (terminalIf room t (atDesk d)) out r out′
   pub kept : room ≡ false → r .desk ≡ d
   pub len-is : room ≡ true → r .desk .len ≡ length (t .held)
+
+-- ---- desks are compared by what they hold: FedBy leaves the bytes of a desk's array past its len free
+-- two calls gave the same: whether there was room, what was said, and desks that hold the same
+pub record SameFed (r : Fed) (out₁ : List ℕ) (s : Fed) (out₂ : List ℕ) : Type 0 where
+  pub same-fits : r .fits ≡ s .fits
+  pub same-at : r .at ≡ s .at
+  pub same-out : out₁ ≡ out₂
+  pub same-held : atDesk (r .desk) ≡ atDesk (s .desk)
+  pub same-len : r .fits ≡ true → r .desk .len ≡ s .desk .len
+
+-- two desks that hold the same, fed the same chunk into the same buffer, or ended, give the same, and hold the same again: so
+-- what lies past len shows nowhere, ever. t is what the call makes of a terminal: `takesAll` a chunk, or `ends`
+abbrev pub ByWhatIsHeld : Type 0
+ByWhatIsHeld =
+    (room : Bool) (t : Terminal → Terminal) (d e : Desk) (out : List ℕ) (r : Fed) (out₁ : List ℕ) (s : Fed) (out₂ : List ℕ)
+    → atDesk d ≡ atDesk e
+    → FedBy room d (t (atDesk d)) out r out₁
+    → FedBy room e (t (atDesk e)) out s out₂
+    → SameFed r out₁ s out₂

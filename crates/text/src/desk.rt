@@ -14,7 +14,8 @@ use crate::serving::serve;
 use book::ledger::Book;
 use book::ledger::fresh;
 
-// The book, and the first len bytes of a line that has not ended yet.
+// The book, and the first len bytes of a line that has not ended yet. What lies past len is nobody's: a call may leave anything
+// there, and `ByWhatIsHeld` says that it shows nowhere, so two desks are compared by what they hold.
 pub struct Desk {
     pub book: Book,
     pub held: [u8; MOST_HELD],

@@ -1,0 +1,60 @@
+// Claims: each function holds a theorem of this layer in the gate. Its `ensures` is the theorem as specs/ states it, for all that
+// it speaks of, so that without the theorem's proof the function is not proved. Nothing has to call them.
+ghost use mathlib.Core.Bool.{true};
+ghost use mathlib.Core.Path.{_≡_};
+ghost use Rattle.text.specs.Answers.{ByText};
+ghost use Rattle.text.specs.Desk.{ByWhatIsHeld};
+ghost use Rattle.text.specs.Examples.{Edges, Run};
+ghost use Rattle.text.specs.Lines.{Lines};
+ghost use Rattle.text.specs.Program.{AnyChunks};
+ghost use Rattle.text.specs.Rendered.{Reads};
+
+// A line is read as a call exactly where it is that call's text, of at most 160 bytes and with figures of at most 12 digits;
+// any other line is no form.
+pub fn calls_by_their_text() -> bool
+    ensures { λ r. ⌜ (r ≡ true) × Reads ⌝ }
+{
+    true
+}
+
+// A line is answered by the call whose text it is, and with refusal 1 where it is no call's.
+pub fn answers_by_the_text() -> bool
+    ensures { λ r. ⌜ (r ≡ true) × ByText ⌝ }
+{
+    true
+}
+
+// A line is any bytes up to a line feed, or up to the input's end if there are any.
+pub fn lines_by_line_feeds() -> bool
+    ensures { λ r. ⌜ (r ≡ true) × Lines ⌝ }
+{
+    true
+}
+
+// In whatever chunks an input comes, what is written is the answers to its lines and then the listing.
+pub fn any_chunks() -> bool
+    ensures { λ r. ⌜ (r ≡ true) × AnyChunks ⌝ }
+{
+    true
+}
+
+// Two desks that hold the same give the same, whatever lies past len.
+pub fn desks_by_what_they_hold() -> bool
+    ensures { λ r. ⌜ (r ≡ true) × ByWhatIsHeld ⌝ }
+{
+    true
+}
+
+// Document 01's own lines, answers and listing.
+pub fn run_of_the_paper() -> bool
+    ensures { λ r. ⌜ (r ≡ true) × Run ⌝ }
+{
+    true
+}
+
+// What lies at the edges of a form and of a line.
+pub fn edges_of_the_forms() -> bool
+    ensures { λ r. ⌜ (r ≡ true) × Edges ⌝ }
+{
+    true
+}

@@ -1,7 +1,7 @@
 use mathlib.Core.Path.{_≡_, sym, _∙_}
 use mathlib.Core.List.{[], _∷_}
 use lib.Dec.{lit≤}
-use Rattle.text.specs.Line.{firstForm, forms, file, close, trade, apply, retire}
+use Rattle.text.specs.Line.{firstForm, forms, close, trade, apply, retire}
 use Rattle.text.specs.Pattern.{places}
 use borrow.Author.Needs.{needs}
 use Rattle.text.proofs.lines.form_of.Statement.{statement}

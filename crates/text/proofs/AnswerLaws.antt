@@ -5,7 +5,7 @@ use native.Mathlib.Omega.{arith}
 use mathlib.Core.Bool.{true, false, true≢false}
 use mathlib.Core.Path.{_≡_, refl}
 use mathlib.Core.List.{List, [], _∷_}
-use lib.Dec.{leb, T, leb→le, lit≤}
+use lib.Dec.{leb, T, leb→le}
 use lib.IntN.{ℤ, pos, negsuc, natAbs}
 use lib.ListN.{length}
 use lib.Signed.{ltZ}
@@ -14,32 +14,13 @@ use Rattle.figuring.specs.declared.units.Mg.{Mg}
 use Rattle.book.specs.declared.answers.Answer.{Answer}
 use Rattle.book.specs.declared.answers.Refusal.{Refusal}
 use Rattle.book.specs.Refusals.{numberOf, refusalIn, valuesIn}
+use Rattle.book.proofs.RefusalLaws.{number-above-0}
 use Rattle.text.specs.Ascii.{ascii}
 use Rattle.text.specs.Pattern.{filled, places}
 use Rattle.text.specs.Answers.{saidFor, textOf, answerRoom}
 use Rattle.text.proofs.FillLaws.{filled-length}
 
 -- ---- a refusal
--- the refusal list starts at 1
-counted : (r : Refusal) → 0 < numberOf r
-unfolding numberOf
-counted Refusal.NotAForm = lit≤ tt
-counted Refusal.UnsoundBook = lit≤ tt
-counted Refusal.UnknownMaker = lit≤ tt
-counted Refusal.UnknownSet = lit≤ tt
-counted Refusal.YearNotOpen = lit≤ tt
-counted Refusal.NoStandard = lit≤ tt
-counted Refusal.UnknownFamily = lit≤ tt
-counted Refusal.OutOfLimits = lit≤ tt
-counted Refusal.AlreadyFiled = lit≤ tt
-counted Refusal.VintageNotLive = lit≤ tt
-counted Refusal.ZeroAmount = lit≤ tt
-counted Refusal.SameMaker = lit≤ tt
-counted Refusal.HasShortage = lit≤ tt
-counted Refusal.NoOpenShortage = lit≤ tt
-counted Refusal.AboveLot = lit≤ tt
-counted Refusal.AboveShortage = lit≤ tt
-
 said-no : (n : ℕ) (vs : List ℤ) → 0 < n → saidFor n vs ≡ filled (ascii "(no #)\n") (n ∷ [])
 unfolding filled
 said-no zero vs h = absurd (not-suc-le-zero h)
@@ -47,7 +28,7 @@ said-no (suc n) vs h = refl
 
 pub refused-text : (r : Refusal) → textOf (Answer.Refused r) ≡ filled (ascii "(no #)\n") (numberOf r ∷ [])
 unfolding textOf refusalIn
-refused-text r = said-no (numberOf r) _ (counted r)
+refused-text r = said-no (numberOf r) _ (number-above-0 r)
 
 -- ---- an accepted call
 pub closed-text : (k : ℕ) → textOf (Answer.Closed k) ≡ filled (ascii "(ok #)\n") (k ∷ [])

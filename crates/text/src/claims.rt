@@ -1,5 +1,5 @@
-// Claims: each function holds a theorem of this layer in the gate. Its `ensures` is the theorem as specs/ states it, for all that
-// it speaks of, so that without the theorem's proof the function is not proved. Nothing has to call them.
+// The claims of the text layer, each a function whose contract is the statement of specs/ for all its arguments. A theorem that
+// goes missing or is weakened leaves its function here unproved, so the gate holds it.
 ghost use mathlib.Core.Bool.{true};
 ghost use mathlib.Core.Path.{_≡_};
 ghost use Rattle.text.specs.Answers.{ByText};

@@ -38,6 +38,12 @@ pub(crate) const RECORD: usize = ARGUMENTS + 8 * 9;
 // Where the book begins in an answer: after its soundness, its refusal and two values.
 const AFTER: usize = 8 * 4;
 
+// What a record asks: a call, or what is none.
+pub enum Asked {
+    Post(Call),
+    Unknown,
+}
+
 // An answer in numbers: the refusal's, or 0 and the values.
 pub struct Figures {
     pub refusal: u64,
@@ -45,12 +51,24 @@ pub struct Figures {
     pub second: u64,
 }
 
-pub(crate) fn answer_record(input: &[u8], out: &mut [u8])
+// Whether the record's call is of a kind that is known; only then is it answered.
+pub(crate) fn answer_record(input: &[u8], out: &mut [u8]) -> bool
+    requires { ⌜ (recordBytes ≡ length (now input)) × (answerBytes ≡ length (now out)) ⌝ }
+{
+    let asked = asked_of(input);
+    let Asked::Post(call) = asked else {
+        return false;
+    };
+    answer_call(input, call, out);
+    true
+}
+
+fn answer_call(input: &[u8], call: Call, out: &mut [u8])
     requires { ⌜ (recordBytes ≡ length (now input)) × (answerBytes ≡ length (now out)) ⌝ }
 {
     let book = book_of(input);
     let sound = is_sound(book);
-    let posted = post(book, call_of(input));
+    let posted = post(book, call);
     let answer = posted.answer;
     let after = posted.book;
     put_answer(out, sound, answer);
@@ -108,34 +126,34 @@ fn argument(input: &[u8], place: usize) -> u64
     word(input, ARGUMENTS + 8 * place)
 }
 
-// The call of a record; kinds from 5 on begin again at 0.
-fn call_of(input: &[u8]) -> Call
+fn asked_of(input: &[u8]) -> Asked
     requires { ⌜ recordBytes ≡ length (now input) ⌝ }
 {
-    let kind = word(input, KIND) % 5;
+    let kind = word(input, KIND);
     match kind {
-        0 => Call::File(filing_of(input)),
-        1 => Call::Close(argument(input, 0)),
-        2 => Call::Trade(Trade {
+        0 => Asked::Post(Call::File(filing_of(input))),
+        1 => Asked::Post(Call::Close(argument(input, 0))),
+        2 => Asked::Post(Call::Trade(Trade {
             from: argument(input, 0),
             to: argument(input, 1),
             set: argument(input, 2),
             vintage: argument(input, 3),
             mg: argument(input, 4),
-        }),
-        3 => Call::Apply(Application {
+        })),
+        3 => Asked::Post(Call::Apply(Application {
             maker: argument(input, 0),
             set: argument(input, 1),
             vintage: argument(input, 2),
             year: argument(input, 3),
             mg: argument(input, 4),
-        }),
-        _ => Call::Retire(Retirement {
+        })),
+        4 => Asked::Post(Call::Retire(Retirement {
             maker: argument(input, 0),
             set: argument(input, 1),
             vintage: argument(input, 2),
             mg: argument(input, 3),
-        }),
+        })),
+        _ => Asked::Unknown,
     }
 }
 

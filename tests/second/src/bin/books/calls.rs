@@ -11,14 +11,14 @@ use second::figuring::{
 use second::generate::rng::Rng;
 use second::postings::{Application, Call, Filing, Retirement, Trade};
 
-// A call's kind; 4 is a retirement.
+// A call's kind; the last, 4, is a retirement.
 const FILE: usize = 0;
 const CLOSE: usize = 1;
 const TRADE: usize = 2;
 const APPLY: usize = 3;
 
 pub fn kind_of(words: &[u64; CALL_WORDS]) -> usize {
-    (words[0] % 5) as usize
+    words[0] as usize
 }
 
 pub fn call_of(words: &[u64; CALL_WORDS]) -> Call {
@@ -102,10 +102,7 @@ pub fn call_on(book: &Book, rng: &mut Rng) -> [u64; CALL_WORDS] {
     let kind = rng.index(ROLES.len());
     let mut words = [0; CALL_WORDS];
     words.fill_with(|| any(rng));
-    words[0] = match rng.below(8) {
-        0 => rng.below(u64::MAX / 5) * 5 + kind as u64,
-        _ => kind as u64,
-    };
+    words[0] = kind as u64;
     let arguments = aimed(book, rng, kind);
     words[1..=arguments.len()].copy_from_slice(&arguments);
     let changes = match rng.below(20) {

@@ -5,7 +5,8 @@
 //! PROGRAM reads records to the end of its input and ignores a last one that
 //! is cut short. A record is 3,617 words of a book, then a call's kind and
 //! nine arguments; its answer is the book's soundness, the refusal or 0, two
-//! values, and the book after it. A word is 64 bits, low byte first.
+//! values, and the book after it. A word is 64 bits, low byte first. A kind
+//! that is none ends PROGRAM with a message, and is tried first.
 
 mod calls;
 mod made;
@@ -18,8 +19,8 @@ use second::figuring::{FIRST_YEAR, YEARS};
 use second::generate::rng::Rng;
 use second::postings::{post, Answer, Results};
 use std::ffi::OsStr;
-use std::io::{BufReader, BufWriter, Read, Write};
-use std::process::{ChildStdin, Command, ExitCode, Stdio};
+use std::io::{self, BufReader, BufWriter, Read, Write};
+use std::process::{ChildStdin, Command, ExitCode, Output, Stdio};
 use std::sync::mpsc::{sync_channel, Receiver, SyncSender};
 use std::thread;
 use std::time::Instant;
@@ -32,14 +33,48 @@ const ANSWER_WORDS: usize = 4;
 const BYTES: usize = 8;
 /// Cases on their way to the program.
 const AHEAD: usize = 16;
+/// Kinds that are none; a remainder or a narrower type takes each for one.
+const NO_KINDS: [u64; 6] = [5, 9, 1 << 8, 1 << 16, 1 << 32, 1 << 63];
 
 fn main() -> ExitCode {
     answered("books PROGRAM N [SEED]", |asked| {
+        refuses_no_kinds(&asked.program, asked.seed)?;
         let tally = compare(&asked.program, asked.count, asked.seed)?;
         eprintln!("{}", tally.by_kind());
         let count = asked.count;
         let answers = tally.answers();
         Ok(format!("{count} books compared, 0 differences ({answers})"))
+    })
+}
+
+/// A kind that is none must get a message and no answer, nor may the good
+/// record after it.
+fn refuses_no_kinds(program: &OsStr, seed: u64) -> Result<(), String> {
+    let good = Case::of(seed, 0);
+    for kind in NO_KINDS {
+        let mut bad = Case::of(seed, 0);
+        bad.call[0] = kind;
+        let records = [bad.record(), good.record()].concat();
+        let given = run(program, &records)
+            .map_err(|error| format!("{}: {error}", program.to_string_lossy()))?;
+        if !given.stdout.is_empty() || given.stderr.is_empty() {
+            return Err(format!("kind {kind} is none, and was not refused"));
+        }
+    }
+    Ok(())
+}
+
+fn run(program: &OsStr, input: &[u8]) -> io::Result<Output> {
+    let mut child = Command::new(program)
+        .stdin(Stdio::piped())
+        .stdout(Stdio::piped())
+        .stderr(Stdio::piped())
+        .spawn()?;
+    let stdin = child.stdin.take();
+    thread::scope(|scope| {
+        // A program that stops reading shows in its output.
+        scope.spawn(|| stdin.map(|mut stdin| stdin.write_all(input)));
+        child.wait_with_output()
     })
 }
 

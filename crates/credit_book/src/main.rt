@@ -1,11 +1,13 @@
 // The program of document 01: starts from a fresh book, reads standard input to its end, answers each line, then lists the cells.
+// The contracts speak of values, since none can say what a call of the system read or wrote (specs/Turns.antt).
 ghost use Prim.Native.Nat.{_≤_};
+ghost use mathlib.Core.Bool.{true};
 ghost use mathlib.Core.Path.{_≡_};
-ghost use lib.ListN.{length, take};
-ghost use Rattle.text.specs.Desk.{Serves, atDesk, ends, takesAll};
-ghost use Rattle.text.specs.Listing.{listing, listingRoom};
+ghost use lib.ListN.{length};
+ghost use Rattle.text.specs.Desk.{atDesk, ends, takesAll};
+ghost use Rattle.text.specs.Listing.{listing};
 ghost use Rattle.text.specs.Placing.{Stands};
-use book::ledger::Book;
+ghost use Rattle.credit_book.specs.Turns.{ClosedBy, RanBy, ReadBy, Says, Turned, atEnd, chunkRoom, outRoom, readsOn, turnFine};
 use libc::STDIN_FILENO;
 use libc::STDOUT_FILENO;
 use text::answering::ANSWER_ROOM;
@@ -17,116 +19,209 @@ const CHUNK: usize = 4_096;
 
 const OUT_ROOM: usize = ANSWER_ROOM * CHUNK;
 
-// The desk after a read, whether there may be more to read, and whether nothing failed.
+// How many bytes were handed to standard output, and whether it took them all.
+pub struct Wrote {
+    pub handed: usize,
+    pub fine: bool,
+}
+
+// A desk, and the writing of what it said.
+pub struct Said {
+    pub desk: Desk,
+    pub wrote: Wrote,
+}
+
+// The desk after a read; what the read answered, and whether a signal interrupted it; the writing of the answers.
 pub struct Turn {
     pub desk: Desk,
+    pub got: isize,
+    pub interrupted: bool,
+    pub wrote: Wrote,
+}
+
+// The desk after the reads, how many there were, whether there may be more to read, and whether nothing failed.
+pub struct Input {
+    pub desk: Desk,
+    pub turns: u64,
     pub more: bool,
     pub fine: bool,
 }
 
-// out has room (262,144 is ANSWER_ROOM × CHUNK) for the answers to any chunk, to the last line, and for any listing.
-fn answer_chunk(desk: Desk, chunk: &[u8], out: &mut [u8]) -> Fed
-    requires { ⌜ (length (now chunk) ≤ 4096) × (262144 ≤ length (now out)) ⌝ }
-    ensures { λ r. ⌜ Serves (takesAll (atDesk desk) (now (chunk .entry))) (now (out .entry)) r (now (out .exit)) ⌝ }
-{
-    text::desk::feed(desk, chunk, out)
+// The writing of the last line's answer, and of the listing.
+pub struct Closed {
+    pub last: Wrote,
+    pub listed: Wrote,
 }
 
-fn answer_last(desk: Desk, out: &mut [u8]) -> Fed
-    requires { ⌜ listingRoom ≤ length (now out) ⌝ }
-    ensures { λ r. ⌜ Serves (ends (atDesk desk)) (now (out .entry)) r (now (out .exit)) ⌝ }
-{
-    text::desk::last(desk, out)
+// The input as it was read, and what was written at its end.
+pub struct Ran {
+    pub input: Input,
+    pub closed: Closed,
 }
 
-fn list_cells(out: &mut [u8], book: Book) -> usize
-    requires { ⌜ listingRoom ≤ length (now out) ⌝ }
-    ensures { λ r. ⌜ Stands (listing book) 0 (now (out .entry)) r (now (out .exit)) ⌝ }
-    ensures { λ r. ⌜ (r ≤ length (now (out .exit))) × (r ≡ length (take r (now (out .exit)))) ⌝ }
+fn written(text: &[u8]) -> Wrote
+    ensures { λ r. ⌜ r .handed ≡ length (now (text .entry)) ⌝ }
 {
-    let p = text::listing::put_listing(out, book);
-    p.at
-}
-
-// Reads once, and writes the answers to what came. A read that a signal interrupts is tried again.
-fn read_some(desk: Desk, out: &mut [u8]) -> Turn
-    requires { ⌜ 262144 ≤ length (now out) ⌝ }
-{
-    let mut chunk = [0u8; CHUNK];
-    let got = libc::read(STDIN_FILENO, &mut chunk);
-    if got < 0 {
-        if os::errno() == libc::EINTR {
-            return Turn {
-                desk,
-                more: true,
-                fine: true,
-            };
-        }
-        os::fail(b"credit-book: standard input");
-        return Turn {
-            desk,
-            more: false,
-            fine: false,
-        };
-    }
-    let n = io::count(got, &chunk);
-    if n == 0 {
-        return Turn {
-            desk,
-            more: false,
-            fine: true,
-        };
-    }
-    let f = answer_chunk(desk, &chunk[..n], out);
-    let d = f.desk;
-    let w = f.at;
-    let fine = written(&out[..w]);
-    Turn {
-        desk: d,
-        more: fine,
-        fine,
-    }
-}
-
-fn written(text: &[u8]) -> bool {
     let fine = io::write_all(STDOUT_FILENO, text);
     if !fine {
         os::fail(b"credit-book: standard output");
     }
-    fine
+    Wrote {
+        handed: text.len(),
+        fine,
+    }
+}
+
+// Where there is nothing to write, since something failed.
+fn unwritten() -> Wrote
+    ensures { λ r. ⌜ r .handed ≡ 0 ⌝ }
+{
+    Wrote {
+        handed: 0,
+        fine: false,
+    }
+}
+
+// Writes what a desk said, which stands at out's start.
+fn say(fed: Fed, out: &[u8]) -> Said
+    requires { ⌜ fed .at ≤ length (now out) ⌝ }
+    ensures { λ r. ⌜ (r .desk ≡ fed .desk) × (r .wrote .handed ≡ fed .at) ⌝ }
+{
+    let at = fed.at;
+    let wrote = written(&out[..at]);
+    let desk = fed.desk;
+    Said { desk, wrote }
+}
+
+fn answer_chunk(desk: Desk, chunk: &[u8], out: &mut [u8]) -> Said
+    requires { ⌜ (length (now chunk) ≤ chunkRoom) × (outRoom ≤ length (now out)) ⌝ }
+    ensures { λ r. ⌜ Says (takesAll (atDesk desk) (now (chunk .entry))) (now (out .entry)) (r .desk) (r .wrote) (now (out .exit)) ⌝ }
+{
+    let fed = text::desk::feed(desk, chunk, out);
+    say(fed, out)
+}
+
+// The answer to a last line that lacks its line feed.
+fn answer_last(desk: Desk, out: &mut [u8]) -> Said
+    requires { ⌜ outRoom ≤ length (now out) ⌝ }
+    ensures { λ r. ⌜ Says (ends (atDesk desk)) (now (out .entry)) (r .desk) (r .wrote) (now (out .exit)) ⌝ }
+{
+    let fed = text::desk::last(desk, out);
+    say(fed, out)
+}
+
+// The cells of a desk's book. It takes what was said before, so that nothing is listed after a write that failed.
+fn list_cells(said: Said, out: &mut [u8]) -> Wrote
+    requires { ⌜ (said .wrote .fine ≡ true) × (outRoom ≤ length (now out)) ⌝ }
+    ensures { λ r. ⌜ Stands (listing (said .desk .book)) 0 (now (out .entry)) (r .handed) (now (out .exit)) ⌝ }
+{
+    let desk = said.desk;
+    let book = desk.book;
+    let placed = text::listing::put_listing(out, book);
+    let at = placed.at;
+    written(&out[..at])
+}
+
+// Whether nothing failed in a turn. A read that a signal interrupted is tried again.
+fn turn_fine(got: isize, interrupted: bool, wrote: bool) -> bool
+    ensures { λ r. ⌜ r ≡ turnFine got interrupted wrote ⌝ }
+{
+    if got < 0 { interrupted && wrote } else { wrote }
+}
+
+// Whether there may be more to read after a turn. A short read is not the end of the input.
+fn reads_on(got: isize, fine: bool) -> bool
+    ensures { λ r. ⌜ r ≡ readsOn got fine ⌝ }
+{
+    if got == 0 { false } else { fine }
+}
+
+// Reads once, and answers what came, be it nothing.
+fn read_some(desk: Desk, out: &mut [u8]) -> Turn
+    requires { ⌜ outRoom ≤ length (now out) ⌝ }
+    ensures { λ r. ⌜ Turned desk (now (out .entry)) r (now (out .exit)) ⌝ }
+{
+    let mut chunk = [0u8; CHUNK];
+    let got = libc::read(STDIN_FILENO, &mut chunk);
+    let interrupted = os::errno() == libc::EINTR;
+    if got < 0 && !interrupted {
+        os::fail(b"credit-book: standard input");
+    }
+    let n = io::count(got, &chunk);
+    let said = answer_chunk(desk, &chunk[..n], out);
+    let d = said.desk;
+    let wrote = said.wrote;
+    Turn {
+        desk: d,
+        got,
+        interrupted,
+        wrote,
+    }
+}
+
+// A proved loop has to end, and nothing says that the input does: the loop counts its turns up to a number that no run reaches.
+fn read_all(out: &mut [u8]) -> Input
+    requires { ⌜ outRoom ≤ length (now out) ⌝ }
+    ensures { λ r. ⌜ ReadBy r ⌝ }
+{
+    let mut desk = text::desk::open_desk();
+    let mut turns: u64 = 0;
+    let mut more = true;
+    let mut fine = true;
+    while more && turns < u64::MAX {
+        let turn = read_some(desk, out);
+        let wrote = turn.wrote;
+        desk = turn.desk;
+        fine = turn_fine(turn.got, turn.interrupted, wrote.fine);
+        more = reads_on(turn.got, fine);
+        turns += 1;
+    }
+    Input {
+        desk,
+        turns,
+        more,
+        fine,
+    }
+}
+
+// Whether the input came to its end, and nothing failed.
+fn at_end(more: bool, fine: bool) -> bool
+    ensures { λ r. ⌜ r ≡ atEnd more fine ⌝ }
+{
+    !more && fine
 }
 
 // The end of the input: the last line's answer, then the cells.
-fn finish(desk: Desk, out: &mut [u8])
-    requires { ⌜ listingRoom ≤ length (now out) ⌝ }
+fn close(input: Input, out: &mut [u8]) -> Closed
+    requires { ⌜ (atEnd (input .more) (input .fine) ≡ true) × (outRoom ≤ length (now out)) ⌝ }
+    ensures { λ r. ⌜ ClosedBy (atDesk (input .desk)) r ⌝ }
 {
-    let f = answer_last(desk, out);
-    let w = f.at;
-    if written(&out[..w]) {
-        let d = f.desk;
-        let b = d.book;
-        let e = list_cells(out, b);
-        written(&out[..e]);
+    let desk = input.desk;
+    let said = answer_last(desk, out);
+    let last = said.wrote;
+    if last.fine {
+        let listed = list_cells(said, out);
+        return Closed { last, listed };
     }
+    let listed = unwritten();
+    Closed { last, listed }
 }
 
-// A proved loop has to end, and nothing says that the input does: the loop counts its turns down from a number that no run uses up.
+fn run(out: &mut [u8]) -> Ran
+    requires { ⌜ outRoom ≤ length (now out) ⌝ }
+    ensures { λ r. ⌜ RanBy r ⌝ }
+{
+    let input = read_all(out);
+    if at_end(input.more, input.fine) {
+        let closed = close(input, out);
+        return Ran { input, closed };
+    }
+    let last = unwritten();
+    let closed = Closed { last, listed: last };
+    Ran { input, closed }
+}
+
 fn main() {
     let mut out = [0u8; OUT_ROOM];
-    let mut desk = text::desk::open_desk();
-    let mut fine = true;
-    let mut turns = u64::MAX;
-    while turns > 0 {
-        let t = read_some(desk, &mut out);
-        desk = t.desk;
-        fine = t.fine;
-        if t.more {
-            turns -= 1;
-        } else {
-            turns = 0;
-        }
-    }
-    if fine {
-        finish(desk, &mut out);
-    }
+    run(&mut out);
 }

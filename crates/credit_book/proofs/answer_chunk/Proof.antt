@@ -1,21 +1,28 @@
 use Prim.Native.Nat.{_/_}
-use lib.ListN.{length}
-use Rattle.text.specs.Answers.{answerRoom}
 use native.Mathlib.Omega.{arith}
+use lib.ListN.{length}
 use borrow.Author.Tests.{le-leb}
-use Rattle.text.proofs.FeedLaws.{served}
 use borrow.Author.Needs.{needs}
+use Rattle.text.specs.Answers.{answerRoom}
+use Rattle.text.proofs.FeedLaws.{served}
+use Rattle.credit_book.proofs.TurnLaws.{says}
 use Rattle.credit_book.proofs.answer_chunk.Statement.{statement}
 use Rattle.credit_book.proofs.answer_chunk.Tie as tie
 
 feed-requires : tie.Need-feed-requires
 feed-requires c κs = search needs
 
+say-requires : tie.Need-say-requires
+say-requires c κs = search needs
+
 same-length : tie.Need-same-length
 same-length c = search needs
 
 returns : tie.Need-returns
-returns c = served (le-leb (length (c .before .before .before .before .before .before .args .chunk .now)) (length (c .before .before .before .before .before .before .args .out .now) / answerRoom) (omega arith)) (c .before .before .feed .ensures)
+returns c =
+    let start = c .before .before .before .before .before .before .before .before in
+    let room = le-leb (length (start .args .chunk .now)) (length (start .args .out .now) / answerRoom) (omega (arith, start .pre)) in
+    says (served room (c .before .before .before .before .feed .ensures)) (c .say .ensures .0) (c .say .ensures .1)
 
 pub answer-chunk-spec : {M : Type 1} → statement M
-answer-chunk-spec = tie.close (tie.spec feed-requires same-length returns)
+answer-chunk-spec = tie.close (tie.spec feed-requires say-requires same-length returns)

@@ -1,0 +1,54 @@
+use mathlib.Core.Bool.{true≢false}
+use mathlib.Core.Path.{sym, _∙_}
+use borrow.Author.Needs.{needs}
+use Rattle.credit_book.proofs.run.Statement.{statement}
+use Rattle.credit_book.proofs.run.Tie as tie
+
+read-all-requires : tie.Need-read-all-requires
+read-all-requires c κs = search needs
+
+at-end-requires : tie.Need-at-end-requires
+at-end-requires c κs = search needs
+
+close-requires : tie.Need-close-requires
+close-requires c κs = (sym (c .before .before .at-end .ensures) ∙ c .before .if1 .taken, search needs)
+
+same-length : tie.Need-same-length
+same-length c = search needs
+
+returns : tie.Need-returns
+returns c =
+    let e = sym (c .before .before .before .before .before .at-end .ensures) ∙ c .before .before .before .before .if1 .taken in
+    record {
+      read = c .before .before .before .before .before .before .before .before .read-all .ensures;
+      closes = λ _. c .before .before .close .ensures;
+      unclosed = λ f. absurd (true≢false (sym e ∙ f));
+    }
+
+unwritten-requires : tie.Need-unwritten-requires
+unwritten-requires c κs = search needs
+
+same-length-2 : tie.Need-same-length-2
+same-length-2 c = search needs
+
+returns-2 : tie.Need-returns-2
+returns-2 c =
+    let e = sym (c .before .before .at-end .ensures) ∙ c .before .if1 .left in
+    record {
+      read = c .before .before .before .before .before .read-all .ensures;
+      closes = λ t. absurd (true≢false (sym t ∙ e));
+      unclosed = λ _. (c .unwritten .ensures, c .unwritten .ensures);
+    }
+
+pub run-spec : {M : Type 1} → statement M
+run-spec =
+    tie.close
+    (tie.spec
+    read-all-requires
+    at-end-requires
+    close-requires
+    same-length
+    returns
+    unwritten-requires
+    same-length-2
+    returns-2)

@@ -1,0 +1,96 @@
+-- What the program's functions hold to. No contract can say what a call of the system read or wrote; these say it of values:
+-- what a read answered, how many bytes were handed to standard output, and what stood in the buffer that they came from.
+use Prim.Native.Nat.{ℕ, zero, suc}
+use mathlib.Core.Bool.{Bool, true, false, cond}
+use mathlib.Core.Path.{_≡_}
+use mathlib.Core.List.{List, [], _∷_, _++_}
+use lib.IntN.{ℤ, pos, negsuc}
+use lib.ListN.{length}
+use Rattle.io.specs.Counts.{clamped}
+use Rattle.text.specs.declared.desk.Desk.{Desk}
+use Rattle.text.specs.Desk.{Terminal, atDesk, takesAll, ends}
+use Rattle.text.specs.Listing.{listing}
+use Rattle.text.specs.Placing.{Stands}
+use Rattle.text.specs.Program.{opened, written, joined, terminal}
+use Rattle.credit_book.specs.declared.Wrote.{Wrote}
+use Rattle.credit_book.specs.declared.Turn.{Turn}
+use Rattle.credit_book.specs.declared.Input.{Input}
+use Rattle.credit_book.specs.declared.Closed.{Closed}
+use Rattle.credit_book.specs.declared.Ran.{Ran}
+
+-- the most bytes of a read, and room for the answers to them
+abbrev pub chunkRoom : ℕ
+chunkRoom = 4096
+
+abbrev pub outRoom : ℕ
+outRoom = 262144
+
+-- the turns that a reading may take
+abbrev pub mostTurns : ℕ
+mostTurns = 18446744073709551615
+
+-- a desk after what the terminal t said was written: it stands at the buffer's start, and all of it was handed over
+pub record Says (t : Terminal) (out : List ℕ) (d : Desk) (wrote : Wrote) (out′ : List ℕ) : Type 0 where
+  pub desk-is : atDesk d ≡ written t
+  pub stands : Stands (t .said) 0 out (wrote .handed) out′
+
+-- whether nothing failed in a turn, by what the read answered, whether a signal interrupted it, and whether the write was fine;
+-- an interrupted read is no failure
+abbrev pub turnFine : ℤ → Bool → Bool → Bool
+turnFine (pos k) interrupted wrote = wrote
+turnFine (negsuc k) interrupted wrote = cond interrupted wrote false
+
+-- whether there may be more to read: a read that answers 0 is the end of the input, and no other is; after a failure nothing is read
+abbrev pub readsOn : ℤ → Bool → Bool
+readsOn (pos zero) fine = false
+readsOn (pos (suc k)) fine = fine
+readsOn (negsuc k) fine = fine
+
+-- a turn: there is a chunk, as long as the read answered and empty where it failed, that the desk has taken
+pub record Turned (d : Desk) (out : List ℕ) (r : Turn) (out′ : List ℕ) : Type 0 where
+  pub chunk : List ℕ
+  pub came : length chunk ≡ clamped (r .got) chunkRoom
+  pub says : Says (takesAll (atDesk d) chunk) out (r .desk) (r .wrote) out′
+
+-- the chunks that were read, the terminal that took them, whether there may be more, and whether nothing failed:
+-- each turn but the last left more to read
+pub data Reading : List (List ℕ) → Terminal → Bool → Bool → Type 0 where
+  begun : Reading [] opened true true
+  turn :
+      {chunks : List (List ℕ)} {t : Terminal} {before : Bool} (chunk : List ℕ) (got : ℤ) (interrupted wrote : Bool) → Reading chunks t true before
+      → length chunk ≡ clamped got chunkRoom
+      → Reading (chunks ++ (chunk ∷ [])) (written (takesAll t chunk)) (readsOn got (turnFine got interrupted wrote)) (turnFine got interrupted wrote)
+
+-- the input is read to its end, to a failure, or until the turns are used up
+pub record ReadBy (r : Input) : Type 0 where
+  pub chunks : List (List ℕ)
+  pub reading : Reading chunks (atDesk (r .desk)) (r .more) (r .fine)
+  pub counts : r .turns ≡ length chunks
+  pub used-up : r .more ≡ true → r .turns ≡ mostTurns
+
+-- whether the input came to its end, and nothing failed
+abbrev pub atEnd : Bool → Bool → Bool
+atEnd more fine = cond more false fine
+
+-- the end of the input: all of the last line's answer, then, if that was fine, all of the listing of the book after it
+pub record ClosedBy (t : Terminal) (r : Closed) : Type 0 where
+  pub handed-is : r .last .handed ≡ length (ends t .said)
+  pub listed-is : r .last .fine ≡ true → r .listed .handed ≡ length (listing (ends t .book))
+  pub unlisted : r .last .fine ≡ false → r .listed .handed ≡ 0
+
+-- a run: the input, and what is written at its end, if it came to it and nothing failed
+pub record RanBy (r : Ran) : Type 0 where
+  pub read : ReadBy (r .input)
+  pub closes : atEnd (r .input .more) (r .input .fine) ≡ true → ClosedBy (atDesk (r .input .desk)) (r .closed)
+  pub unclosed : atEnd (r .input .more) (r .input .fine) ≡ false → (r .closed .last .handed ≡ 0) × (r .closed .listed .handed ≡ 0)
+
+-- what the terminal t says to the chunks, turn by turn
+unfoldable pub saidTo : Terminal → List (List ℕ) → List ℕ
+saidTo t [] = []
+saidTo t (c ∷ cs) = takesAll t c .said ++ saidTo (written (takesAll t c)) cs
+
+-- what the turns, the last line and the listing say is together the terminal's answer to the input
+abbrev pub WholeRun : Type 0
+WholeRun =
+    (chunks : List (List ℕ)) (t : Terminal) (more fine : Bool) → Reading chunks t more fine
+    → saidTo opened chunks ++ (ends t .said ++ listing (ends t .book)) ≡ terminal (joined chunks)

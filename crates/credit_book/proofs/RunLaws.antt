@@ -22,7 +22,7 @@ after-more t (x ∷ cs) c = after-more (written (takesAll t x)) cs c
 taken : (chunks : List (List ℕ)) (t : Terminal) (more fine : Bool) → Reading chunks t more fine → t ≡ after opened chunks
 unfolding after
 taken _ _ _ _ Reading.begun = refl
-taken _ _ _ _ (Reading.turn {chunks} {t} {before} chunk got interrupted wrote g e) =
+taken _ _ _ _ (Reading.turn {chunks} {t} {before} chunk got interrupted wrote g e h) =
     rw (after-more opened chunks chunk, taken chunks t _ before g)
 
 in-turns : (t : Terminal) (cs : List (List ℕ)) → inChunks t cs ≡ saidTo t cs ++ (ends (after t cs) .said ++ listing (ends (after t cs) .book))

@@ -55,7 +55,7 @@ next {d = d} {on = on} {before = before} {r = r} o h g s z f m =
       long = same-long (s .says .stands) ∙ g .long;
       within = omega arith;
       chunks = g .chunks ++ (s .chunk ∷ []);
-      reading = rw (m, f, toZ-ofZ z, s .says .desk-is) (Reading.turn (s .chunk) (r .got) (r .interrupted) (r .wrote .fine) (subst (λ (b : Bool). Reading (g .chunks) (atDesk d) b before) o (g .reading)) (s .came));
+      reading = rw (m, f, toZ-ofZ z, s .says .desk-is) (Reading.turn (s .chunk) (r .got) (r .interrupted) (r .wrote) (subst (λ (b : Bool). Reading (g .chunks) (atDesk d) b before) o (g .reading)) (s .came) (s .says .stands .end-is ∙ zero-add _));
       counts = rw (length-append (g .chunks) (s .chunk ∷ [])) (omega (arith, g .counts));
     }
 

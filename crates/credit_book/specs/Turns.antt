@@ -53,13 +53,14 @@ pub record Turned (d : Desk) (out : List ℕ) (r : Turn) (out′ : List ℕ) : T
   pub says : Says (takesAll (atDesk d) chunk) out (r .desk) (r .wrote) out′
 
 -- the chunks that were read, the terminal that took them, whether there may be more, and whether nothing failed:
--- each turn but the last left more to read
+-- in each turn all that the terminal said was handed over, and each turn but the last left more to read
 pub data Reading : List (List ℕ) → Terminal → Bool → Bool → Type 0 where
   begun : Reading [] opened true true
   turn :
-      {chunks : List (List ℕ)} {t : Terminal} {before : Bool} (chunk : List ℕ) (got : ℤ) (interrupted wrote : Bool) → Reading chunks t true before
+      {chunks : List (List ℕ)} {t : Terminal} {before : Bool} (chunk : List ℕ) (got : ℤ) (interrupted : Bool) (wrote : Wrote) → Reading chunks t true before
       → length chunk ≡ clamped got chunkRoom
-      → Reading (chunks ++ (chunk ∷ [])) (written (takesAll t chunk)) (readsOn got (turnFine got interrupted wrote)) (turnFine got interrupted wrote)
+      → wrote .handed ≡ length (takesAll t chunk .said)
+      → Reading (chunks ++ (chunk ∷ [])) (written (takesAll t chunk)) (readsOn got (turnFine got interrupted (wrote .fine))) (turnFine got interrupted (wrote .fine))
 
 -- the input is read to its end, to a failure, or until the turns are used up
 pub record ReadBy (r : Input) : Type 0 where

@@ -12,7 +12,6 @@ use libc::STDIN_FILENO;
 use libc::STDOUT_FILENO;
 use text::answering::ANSWER_ROOM;
 use text::desk::Desk;
-use text::desk::Fed;
 
 // The most bytes of a read, and room for the answers to them; a listing takes less.
 const CHUNK: usize = 4_096;
@@ -82,14 +81,12 @@ fn unwritten() -> Wrote
     }
 }
 
-// Writes what a desk said, which stands at out's start.
-fn say(fed: Fed, out: &[u8]) -> Said
-    requires { ⌜ fed .at ≤ length (now out) ⌝ }
-    ensures { λ r. ⌜ (r .desk ≡ fed .desk) × (r .wrote .handed ≡ fed .at) ⌝ }
+// Writes what a desk said, the first at bytes of out.
+fn say(desk: Desk, at: usize, out: &[u8]) -> Said
+    requires { ⌜ at ≤ length (now out) ⌝ }
+    ensures { λ r. ⌜ (r .desk ≡ desk) × (r .wrote .handed ≡ at) ⌝ }
 {
-    let at = fed.at;
     let wrote = written(&out[..at]);
-    let desk = fed.desk;
     Said { desk, wrote }
 }
 
@@ -98,7 +95,8 @@ fn answer_chunk(desk: Desk, chunk: &[u8], out: &mut [u8]) -> Said
     ensures { λ r. ⌜ Says (takesAll (atDesk desk) (now (chunk .entry))) (now (out .entry)) (r .desk) (r .wrote) (now (out .exit)) ⌝ }
 {
     let fed = text::desk::feed(desk, chunk, out);
-    say(fed, out)
+    let after = fed.desk;
+    say(after, fed.at, out)
 }
 
 // The answer to a last line that lacks its line feed.
@@ -106,8 +104,9 @@ fn answer_last(desk: Desk, out: &mut [u8]) -> Said
     requires { ⌜ outRoom ≤ length (now out) ⌝ }
     ensures { λ r. ⌜ Says (ends (atDesk desk)) (now (out .entry)) (r .desk) (r .wrote) (now (out .exit)) ⌝ }
 {
-    let fed = text::desk::last(desk, out);
-    say(fed, out)
+    let ended = text::desk::last(desk, out);
+    let after = ended.desk;
+    say(after, ended.at, out)
 }
 
 // The cells of a desk's book. It takes what was said before, so that nothing is listed after a write that failed.

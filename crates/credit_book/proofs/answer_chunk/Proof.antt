@@ -20,9 +20,9 @@ same-length c = search needs
 
 returns : tie.Need-returns
 returns c =
-    let start = c .before .before .before .before .before .before .before .before in
+    let start = c .before .before .before .before .before .before .before .before .before in
     let room = le-leb (length (start .args .chunk .now)) (length (start .args .out .now) / answerRoom) (omega (arith, start .pre)) in
-    says (served room (c .before .before .before .before .feed .ensures)) (c .say .ensures .0) (c .say .ensures .1)
+    says (served room (c .before .before .before .before .before .feed .ensures)) (c .say .ensures .0) (c .say .ensures .1)
 
 pub answer-chunk-spec : {M : Type 1} → statement M
 answer-chunk-spec = tie.close (tie.spec feed-requires say-requires same-length returns)

@@ -5,9 +5,9 @@ use mathlib.Core.Path.{_≡_, refl, sym, ap, _∙_}
 use mathlib.Core.List.{List, [], _∷_, _++_, append-assoc}
 use Rattle.text.specs.Desk.{Terminal, takesAll, ends}
 use Rattle.text.specs.Listing.{listing}
-use Rattle.text.specs.Program.{opened, written, inChunks}
+use Rattle.text.specs.Program.{opened, written, joined, terminal, inChunks}
 use Rattle.text.proofs.SessionLaws.{any-chunks}
-use Rattle.credit_book.specs.Turns.{Reading, saidTo, WholeRun}
+use Rattle.credit_book.specs.Turns.{Reading, saidTo}
 
 -- the terminal that took the chunks, each said and handed over
 after : Terminal → List (List ℕ) → Terminal
@@ -32,5 +32,7 @@ in-turns t (c ∷ cs) =
     ap (λ (l : List ℕ). takesAll t c .said ++ l) (in-turns (written (takesAll t c)) cs)
     ∙ sym (append-assoc (takesAll t c .said) (saidTo (written (takesAll t c)) cs) _)
 
-pub whole-run : WholeRun
+pub whole-run :
+    (chunks : List (List ℕ)) (t : Terminal) (more fine : Bool) → Reading chunks t more fine
+    → saidTo opened chunks ++ (ends t .said ++ listing (ends t .book)) ≡ terminal (joined chunks)
 whole-run chunks t more fine g = rw (taken chunks t more fine g) (sym (in-turns opened chunks) ∙ any-chunks chunks)

@@ -79,19 +79,17 @@ pub record ClosedBy (t : Terminal) (r : Closed) : Type 0 where
   pub listed-is : r .last .fine ≡ true → r .listed .handed ≡ length (listing (ends t .book))
   pub unlisted : r .last .fine ≡ false → r .listed .handed ≡ 0
 
--- a run: the input, and what is written at its end, if it came to it and nothing failed
-pub record RanBy (r : Ran) : Type 0 where
-  pub read : ReadBy (r .input)
-  pub closes : atEnd (r .input .more) (r .input .fine) ≡ true → ClosedBy (atDesk (r .input .desk)) (r .closed)
-  pub unclosed : atEnd (r .input .more) (r .input .fine) ≡ false → (r .closed .last .handed ≡ 0) × (r .closed .listed .handed ≡ 0)
-
 -- what the terminal t says to the chunks, turn by turn
 unfoldable pub saidTo : Terminal → List (List ℕ) → List ℕ
 saidTo t [] = []
 saidTo t (c ∷ cs) = takesAll t c .said ++ saidTo (written (takesAll t c)) cs
 
--- what the turns, the last line and the listing say is together the terminal's answer to the input
-abbrev pub WholeRun : Type 0
-WholeRun =
-    (chunks : List (List ℕ)) (t : Terminal) (more fine : Bool) → Reading chunks t more fine
-    → saidTo opened chunks ++ (ends t .said ++ listing (ends t .book)) ≡ terminal (joined chunks)
+-- a run: the input, and what is written at its end, if it came to it and nothing failed
+pub record RanBy (r : Ran) : Type 0 where
+  pub read : ReadBy (r .input)
+  pub closes : atEnd (r .input .more) (r .input .fine) ≡ true → ClosedBy (atDesk (r .input .desk)) (r .closed)
+  pub unclosed : atEnd (r .input .more) (r .input .fine) ≡ false → (r .closed .last .handed ≡ 0) × (r .closed .listed .handed ≡ 0)
+  -- what the turns, the last line and the listing say is together the terminal's answer to the bytes that were read
+  pub whole :
+      saidTo opened (read .chunks) ++ (ends (atDesk (r .input .desk)) .said ++ listing (ends (atDesk (r .input .desk)) .book))
+      ≡ terminal (joined (read .chunks))

@@ -1,6 +1,7 @@
 use mathlib.Core.Bool.{true≢false}
 use mathlib.Core.Path.{sym, _∙_}
 use borrow.Author.Needs.{needs}
+use Rattle.credit_book.proofs.RunLaws.{whole-run}
 use Rattle.credit_book.proofs.run.Statement.{statement}
 use Rattle.credit_book.proofs.run.Tie as tie
 
@@ -19,10 +20,12 @@ same-length c = search needs
 returns : tie.Need-returns
 returns c =
     let e = sym (c .before .before .before .before .before .at-end .ensures) ∙ c .before .before .before .before .if1 .taken in
+    let read = c .before .before .before .before .before .before .before .before .read-all .ensures in
     record {
-      read = c .before .before .before .before .before .before .before .before .read-all .ensures;
+      read = read;
       closes = λ _. c .before .before .close .ensures;
       unclosed = λ f. absurd (true≢false (sym e ∙ f));
+      whole = whole-run _ _ _ _ (read .reading);
     }
 
 unwritten-requires : tie.Need-unwritten-requires
@@ -34,10 +37,12 @@ same-length-2 c = search needs
 returns-2 : tie.Need-returns-2
 returns-2 c =
     let e = sym (c .before .before .at-end .ensures) ∙ c .before .if1 .left in
+    let read = c .before .before .before .before .before .read-all .ensures in
     record {
-      read = c .before .before .before .before .before .read-all .ensures;
+      read = read;
       closes = λ t. absurd (true≢false (sym t ∙ e));
       unclosed = λ _. (c .unwritten .ensures, c .unwritten .ensures);
+      whole = whole-run _ _ _ _ (read .reading);
     }
 
 pub run-spec : {M : Type 1} → statement M

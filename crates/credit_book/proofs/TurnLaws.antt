@@ -50,7 +50,7 @@ pub next :
     → fine ≡ turnFine (toZ w64 (ofZ w64 (r .got))) (r .interrupted) (r .wrote .fine)
     → more ≡ readsOn (toZ w64 (ofZ w64 (r .got))) fine
     → SoFar out₀ out′ (r .desk) (turns + 1) more fine
-next {d = d} {on = on} {before = before} {r = r} o h g s z f m =
+next {d = d} {before = before} {r = r} o h g s z f m =
     record {
       long = same-long (s .says .stands) ∙ g .long;
       within = omega arith;

@@ -46,7 +46,7 @@ readsOn (pos zero) fine = false
 readsOn (pos (suc k)) fine = fine
 readsOn (negsuc k) fine = fine
 
--- a turn: there is a chunk, as long as the read answered and empty where it failed, that the desk has taken
+-- a turn: there is a chunk, as long as the read answered and empty where it failed, that the desk took; all that it said is written
 pub record Turned (d : Desk) (out : List ℕ) (r : Turn) (out′ : List ℕ) : Type 0 where
   pub chunk : List ℕ
   pub came : length chunk ≡ clamped (r .got) chunkRoom

@@ -71,7 +71,7 @@ fn written(text: &[u8]) -> Wrote
     }
 }
 
-// Where there is nothing to write, since something failed.
+// What is not written, since something failed before.
 fn unwritten() -> Wrote
     ensures { λ r. ⌜ r .handed ≡ 0 ⌝ }
 {

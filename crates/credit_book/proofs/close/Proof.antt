@@ -13,7 +13,7 @@ same-length : tie.Need-same-length
 same-length c = search needs
 
 returns : tie.Need-returns
-returns c = lists {out = _} {out′ = _} {said = c .before .before .before .before .before .before .before .before .answer-last .result} (c .before .before .before .before .before .before .before .before .answer-last .ensures) (c .before .before .before .before .if1 .taken) (c .before .before .list-cells .ensures)
+returns c = lists {said = c .before .before .before .before .before .before .before .before .answer-last .result} (c .before .before .before .before .before .before .before .before .answer-last .ensures) (c .before .before .before .before .if1 .taken) (c .before .before .list-cells .ensures)
 
 unwritten-requires : tie.Need-unwritten-requires
 unwritten-requires c κs = search needs

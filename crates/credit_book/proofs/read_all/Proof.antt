@@ -1,7 +1,10 @@
+-- The loop's invariant is what has been read so far (TurnLaws); the turns left fall.
 use Prim.Native.Nat.{_-_, _<_}
 use mathlib.Core.Bool.{true≢false}
 use mathlib.Core.Path.{sym, _∙_}
+use native.Mathlib.Nat.{lt-of-lt-of-le}
 use native.Mathlib.Omega.{arith}
+use lib.Dec.{lit≤}
 use borrow.Author.Needs.{needs}
 use borrow.Author.Tests.{ltb-true, ltb-false}
 use Rattle.credit_book.specs.Turns.{mostTurns}
@@ -31,7 +34,7 @@ reads-on-requires : tie.Need-reads-on-requires Inv-loop μ-loop
 reads-on-requires c κs = search needs
 
 turns-left : (c : tie.After-reads-on Inv-loop μ-loop) → c .before .before .before .before .before .before .before .before .before .before .before .before .loop .turns < mostTurns
-turns-left c = ltb-true _ _ (c .before .before .before .before .before .before .before .before .before .before .if1 .taken)
+turns-left c = lt-of-lt-of-le (ltb-true _ _ (c .before .before .before .before .before .before .before .before .before .before .if1 .taken)) (lit≤ tt)
 
 add-turns : tie.Need-add-turns Inv-loop μ-loop
 add-turns c = omega (arith, turns-left c)

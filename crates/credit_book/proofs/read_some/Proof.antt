@@ -1,3 +1,4 @@
+-- The chunk is what the read left at the buffer's start, as much as it answered.
 use lib.ListN.{length, take}
 use mir.Syntax.{w64}
 use mir.Val.{toZ, ofZ}

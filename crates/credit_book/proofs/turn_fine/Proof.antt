@@ -1,5 +1,3 @@
-use mathlib.Core.Bool.{Bool, false, cond}
-use mathlib.Core.Path.{_≡_, sym, ap, _∙_}
 use Rattle.credit_book.proofs.TurnLaws.{read-negative, negative-fine, other-fine}
 use Rattle.credit_book.proofs.turn_fine.Statement.{statement}
 use Rattle.credit_book.proofs.turn_fine.Tie as tie

@@ -1,4 +1,4 @@
--- No refusal has the number 0; the numbers of each table; and what a call answers, refused or accepted.
+-- No refusal has the number 0; the numbers of each table; and demand 1: what a call answers, refused or accepted.
 use Prim.Native.Nat.{_<_}
 use mathlib.Core.Bool.{true, false, false≢true, true≢false}
 use mathlib.Core.Path.{_≡_, refl, sym, _∙_}
@@ -8,7 +8,7 @@ use Rattle.book.specs.Refusals.{numberOf, refusalIn, valuesIn, resultIn}
 use Rattle.book.specs.Postings.{stored, closed, traded, applied, retired}
 use Rattle.book.specs.Rules.{posted, done, fileTable, closeTable, tradeTable, applyTable, retireTable, CheckingOrder}
 use Rattle.book.specs.Demand3.{isAccepted}
-use Rattle.book.specs.Companions.{Answers}
+use Rattle.book.specs.Demand1.{Demand1}
 use Rattle.book.specs.declared.ledger.Book.{Book}
 use Rattle.book.specs.declared.kinds.Call.{Call}
 use Rattle.book.specs.declared.answers.Refusal.{Refusal}
@@ -56,9 +56,9 @@ done-number b (Call.Trade t) = refl
 done-number b (Call.Apply p) = refl
 done-number b (Call.Retire p) = refl
 
-pub answers : (b : Book) (c : Call) → Answers b c
+pub demand1 : (b : Book) (c : Call) → Demand1 b c
 unfolding isAccepted refusalIn valuesIn
-answers b c =
+demand1 b c =
     record {
       accepted =
           by-verdict b c (λ p. isAccepted (p .answer) ≡ true → refusalIn (p .answer) ≡ 0) (λ r t. absurd (false≢true t))

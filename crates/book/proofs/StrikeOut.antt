@@ -7,7 +7,7 @@ use Rattle.book.specs.Demand3.{isAccepted, bookAfter}
 use Rattle.book.specs.Companions.{keepIf, acceptedOnly, StrikeOut}
 use Rattle.book.specs.declared.ledger.Book.{Book}
 use Rattle.book.specs.declared.kinds.Call.{Call}
-use Rattle.book.proofs.RefusalLaws.{answers}
+use Rattle.book.proofs.RefusalLaws.{demand1}
 
 -- a call put to a book, or left out where it was refused, and then the rest
 struck :
@@ -15,7 +15,7 @@ struck :
     → bookAfter b (keepIf t c rest) ≡ bookAfter (posted b c .book) rest
 unfolding bookAfter
 struck b c rest true e = refl
-struck b c rest false e = rw (answers b c .unchanged e)
+struck b c rest false e = rw (demand1 b c .unchanged e)
 
 pub strike-out : (b : Book) (cs : List Call) → StrikeOut b cs
 unfolding bookAfter acceptedOnly

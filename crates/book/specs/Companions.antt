@@ -2,27 +2,17 @@
 use mathlib.Core.Bool.{Bool, true, false}
 use mathlib.Core.List.{List, [], _∷_}
 use mathlib.Core.Path.{_≡_}
-use Prim.Native.Nat.{ℕ, _<_}
-use lib.IntN.{pos}
 use lib.ListN.{length}
 use Rattle.book.specs.Sizes.{cells, places, allParts}
 use Rattle.book.specs.Soundness.{sound}
 use Rattle.book.specs.Postings.{freshBook}
 use Rattle.book.specs.Ledger.{Key, In, at}
 use Rattle.book.specs.Life.{expired, overdue}
-use Rattle.book.specs.Refusals.{refusalIn, resultIn}
+use Rattle.book.specs.Refusals.{refusalIn}
 use Rattle.book.specs.Rules.{posted}
 use Rattle.book.specs.Demand3.{bookAfter, isAccepted}
 use Rattle.book.specs.declared.ledger.Book.{Book}
 use Rattle.book.specs.declared.kinds.Call.{Call}
-
--- Demand 1 of a call: its result, or one numbered refusal. "A refusal gives its number, zero for the other results, and the
--- book unchanged."
-pub record Answers (b : Book) (c : Call) : Type 0 where
-  pub accepted : isAccepted (posted b c .answer) ≡ true → refusalIn (posted b c .answer) ≡ 0
-  pub numbered : isAccepted (posted b c .answer) ≡ false → 0 < refusalIn (posted b c .answer)
-  pub zeros : isAccepted (posted b c .answer) ≡ false → (i : ℕ) → resultIn (posted b c .answer) i ≡ pos 0
-  pub unchanged : isAccepted (posted b c .answer) ≡ false → posted b c .book ≡ b
 
 -- The lists have the lengths of the struct's arrays. Every book of the program has them by its type.
 pub record Sized (b : Book) : Type 0 where

@@ -8,6 +8,7 @@ pub mod Postings
 pub mod Rules
 pub mod Accounts
 pub mod Demand3
+pub mod Demand1
 pub mod Companions
 pub mod Listing
 pub mod Marked

@@ -5,15 +5,16 @@ ghost use mathlib.Core.List.{List};
 ghost use mathlib.Core.Path.{_≡_};
 ghost use Rattle.book.specs.Ledger.{Key, In};
 ghost use Rattle.book.specs.Rules.{CheckingOrder};
+ghost use Rattle.book.specs.Demand1.{Demand1};
 ghost use Rattle.book.specs.Demand3.{Demand3};
-ghost use Rattle.book.specs.Companions.{Answers, KeepsSound, NeverUnsound, Stays, StrikeOut};
+ghost use Rattle.book.specs.Companions.{KeepsSound, NeverUnsound, Stays, StrikeOut};
 ghost use Rattle.book.specs.Marked.{MarkedFigures};
 ghost use Rattle.book.specs.declared.ledger.Book.{Book};
 ghost use Rattle.book.specs.declared.kinds.Call.{Call};
 
 // Demand 1: its result or one numbered refusal, which leaves the book as it was.
-pub fn answers() -> bool
-    ensures { λ r. ⌜ (r ≡ true) × ((b : Book) (c : Call) → Answers b c) ⌝ }
+pub fn answers_or_refuses() -> bool
+    ensures { λ r. ⌜ (r ≡ true) × ((b : Book) (c : Call) → Demand1 b c) ⌝ }
 {
     true
 }

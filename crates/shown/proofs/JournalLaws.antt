@@ -12,7 +12,7 @@ use Rattle.book.specs.Demand3.{isAccepted}
 use Rattle.book.specs.Companions.{keepIf, acceptedOnly}
 use Rattle.book.specs.declared.ledger.Book.{Book}
 use Rattle.book.specs.declared.kinds.Call.{Call}
-use Rattle.book.proofs.RefusalLaws.{answers}
+use Rattle.book.proofs.RefusalLaws.{demand1}
 use Rattle.text.specs.declared.lines.Line.{Line}
 use Rattle.text.specs.Line.{lineOf}
 use Rattle.text.specs.Desk.{lineFeed}
@@ -103,7 +103,7 @@ accepted-again b (c ∷ cs) = go (isAccepted (posted b c .answer)) refl (accepte
         → acceptedOnly b (keepIf t c (acceptedOnly (posted b c .book) cs)) ≡ keepIf t c (acceptedOnly (posted b c .book) cs)
     go true e ih = rw e (ap (λ (ds : List Call). c ∷ ds) ih)
     go false e ih =
-        subst (λ (d : Book). acceptedOnly d (acceptedOnly (posted b c .book) cs) ≡ acceptedOnly (posted b c .book) cs) (answers b c .unchanged e) ih
+        subst (λ (d : Book). acceptedOnly d (acceptedOnly (posted b c .book) cs) ≡ acceptedOnly (posted b c .book) cs) (demand1 b c .unchanged e) ih
 
 pub answers-accepted : (b : Book) (cs : List Call) → Every Accepts (answersOf b (acceptedOnly b cs))
 unfolding acceptedOnly answersOf
@@ -115,7 +115,7 @@ answers-accepted b (c ∷ cs) = go (isAccepted (posted b c .answer)) refl (answe
         → Every Accepts (answersOf b (keepIf t c (acceptedOnly (posted b c .book) cs)))
     go true e ih = (e, ih)
     go false e ih =
-        subst (λ (d : Book). Every Accepts (answersOf d (acceptedOnly (posted b c .book) cs))) (answers b c .unchanged e) ih
+        subst (λ (d : Book). Every Accepts (answersOf d (acceptedOnly (posted b c .book) cs))) (demand1 b c .unchanged e) ih
 
 -- where every line is a form, its answers are the calls'
 dealt-all : (b : Book) (cs : List Call) → Written cs → inTurn (map rendered cs) (answersOf b cs) ≡ answersOf b cs

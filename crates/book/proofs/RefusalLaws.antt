@@ -1,5 +1,5 @@
 -- No refusal has the number 0; the numbers of each table; and demand 1: what a call answers, refused or accepted.
-use Prim.Native.Nat.{_<_}
+use Prim.Native.Nat.{ℕ, _<_}
 use mathlib.Core.Bool.{true, false, false≢true, true≢false}
 use mathlib.Core.Path.{_≡_, refl, sym, _∙_}
 use native.Mathlib.Omega.{arith}
@@ -11,6 +11,8 @@ use Rattle.book.specs.Demand3.{isAccepted}
 use Rattle.book.specs.Demand1.{Demand1}
 use Rattle.book.specs.declared.ledger.Book.{Book}
 use Rattle.book.specs.declared.kinds.Call.{Call}
+use Rattle.book.specs.declared.answers.Answer.{Answer}
+use Rattle.book.specs.declared.answers.Answer.the-variants.{Refused, Filed, Closed, Left}
 use Rattle.book.specs.declared.answers.Refusal.{Refusal}
 use Rattle.book.specs.declared.answers.Refusal.the-variants.{NotAForm, UnsoundBook, UnknownMaker, UnknownSet, YearNotOpen, NoStandard, UnknownFamily, OutOfLimits, AlreadyFiled, VintageNotLive, ZeroAmount, SameMaker, HasShortage, NoOpenShortage, AboveLot, AboveShortage}
 use Rattle.book.proofs.TableLaws.{by-verdict}
@@ -39,7 +41,29 @@ unfolding fileTable closeTable tradeTable applyTable retireTable numberOf
 checking-order =
     record { file = λ b f. refl; close = λ b y. refl; trade = λ b t. refl; apply = λ b p. refl; retire = λ b p. refl }
 
--- ---- an accepted call has no refusal's number
+-- ---- what an answer says of itself
+accepted-number : (a : Answer) → isAccepted a ≡ true → refusalIn a ≡ 0
+unfolding isAccepted refusalIn
+accepted-number (Refused r) e = absurd (false≢true e)
+accepted-number (Filed p n) e = refl
+accepted-number (Closed n) e = refl
+accepted-number (Left m) e = refl
+
+refused-number : (a : Answer) → isAccepted a ≡ false → 0 < refusalIn a
+unfolding isAccepted refusalIn
+refused-number (Refused r) e = number-above-0 r
+refused-number (Filed p n) e = absurd (true≢false e)
+refused-number (Closed n) e = absurd (true≢false e)
+refused-number (Left m) e = absurd (true≢false e)
+
+refused-zeros : (a : Answer) → isAccepted a ≡ false → (i : ℕ) → resultIn a i ≡ pos 0
+unfolding isAccepted valuesIn
+refused-zeros (Refused r) e i = refl
+refused-zeros (Filed p n) e i = absurd (true≢false e)
+refused-zeros (Closed n) e i = absurd (true≢false e)
+refused-zeros (Left m) e i = absurd (true≢false e)
+
+-- ---- what a call answers
 pub done-accepted : (b : Book) (c : Call) → isAccepted (done b c .answer) ≡ true
 unfolding isAccepted done stored closed traded applied retired
 done-accepted b (Call.File f) = refl
@@ -49,29 +73,16 @@ done-accepted b (Call.Apply p) = refl
 done-accepted b (Call.Retire p) = refl
 
 pub done-number : (b : Book) (c : Call) → refusalIn (done b c .answer) ≡ 0
-unfolding done stored closed traded applied retired refusalIn
-done-number b (Call.File f) = refl
-done-number b (Call.Close y) = refl
-done-number b (Call.Trade t) = refl
-done-number b (Call.Apply p) = refl
-done-number b (Call.Retire p) = refl
+done-number b c = accepted-number (done b c .answer) (done-accepted b c)
 
 pub demand1 : (b : Book) (c : Call) → Demand1 b c
-unfolding isAccepted refusalIn valuesIn
+unfolding isAccepted
 demand1 b c =
     record {
-      accepted =
-          by-verdict b c (λ p. isAccepted (p .answer) ≡ true → refusalIn (p .answer) ≡ 0) (λ r t. absurd (false≢true t))
-          (λ e t. done-number b c);
-      numbered =
-          by-verdict b c (λ p. isAccepted (p .answer) ≡ false → 0 < refusalIn (p .answer)) (λ r t. number-above-0 r)
-          (λ e t. absurd (impossible t));
-      zeros =
-          by-verdict b c (λ p. isAccepted (p .answer) ≡ false → (i : _) → resultIn (p .answer) i ≡ pos 0) (λ r t i. refl)
-          (λ e t. absurd (impossible t));
+      accepted = accepted-number (posted b c .answer);
+      numbered = refused-number (posted b c .answer);
+      zeros = refused-zeros (posted b c .answer);
       unchanged =
-          by-verdict b c (λ p. isAccepted (p .answer) ≡ false → p .book ≡ b) (λ r t. refl) (λ e t. absurd (impossible t));
+          by-verdict b c (λ p. isAccepted (p .answer) ≡ false → p .book ≡ b) (λ r t. refl)
+          (λ e t. absurd (true≢false (sym (done-accepted b c) ∙ t)));
     }
-  where
-    impossible : isAccepted (done b c .answer) ≡ false → ⊥
-    impossible t = true≢false (sym (done-accepted b c) ∙ t)

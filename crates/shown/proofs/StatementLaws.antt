@@ -134,22 +134,15 @@ gather-printed o zero f g h = refl
 gather-printed o (suc n) f g h =
     ap₂ _++_ (gather-printed o n f g (λ i l. h i (omega arith))) (h n (omega arith)) ∙ sym (printed-append o (collect n g) (g n))
 
+-- a figure above 0 is of a closed year, if those of the open year and later are 0
+closed-year : (Y y n : ℕ) → (Y ≤ y → n ≡ 0) → 0 < n → y < Y
+closed-year Y y n zeros h = go (decLe Y y)
+  where
+    go : Dec (Y ≤ y) → y < Y
+    go (yes l) = absurd (omega (arith, zeros l))
+    go (no l) = omega arith
+
 module _ (b : Book) (a : Accounts) (w : Sound b) (r : (k : Key) → In k → Reconciled b a k) where
-  -- a figure above 0 is of a closed year
-  lot-closed : (k : Key) → In k → 0 < at (b .lots) k → k .year < b .«open_year»
-  lot-closed k i h = go (decLe (b .«open_year») (k .year))
-    where
-      go : Dec (b .«open_year» ≤ k .year) → k .year < b .«open_year»
-      go (yes l) = absurd (omega (arith, w .ahead k i l .0))
-      go (no l) = omega arith
-
-  shortage-closed : (k : Key) → In k → 0 < at (b .shortages) k → k .year < b .«open_year»
-  shortage-closed k i h = go (decLe (b .«open_year») (k .year))
-    where
-      go : Dec (b .«open_year» ≤ k .year) → k .year < b .«open_year»
-      go (yes l) = absurd (omega (arith, w .ahead k i l .1))
-      go (no l) = omega arith
-
   module _ (m s : ℕ) (hm : m < makers) (hs : s < sets) where
     lot-line : (i : ℕ) → i < years → lotLine (b .«open_year») (b .lots) m s i ≡ printed (b .«open_year») (lotItem a m s i)
     unfolding lotLine lotEntry
@@ -157,7 +150,7 @@ module _ (b : Book) (a : Accounts) (w : Sound b) (r : (k : Key) → In k → Rec
         let k : Key = key m s (firstYear + i) in
         let j : In k = omega arith in
         let e : at (b .lots) k ≡ lotBy a k = omega (arith, r k j .lot) in
-        lot-shown (b .«open_year») m s (firstYear + i) hm hs (omega arith) (omega arith) (at (b .lots) k) (lot-closed k j)
+        lot-shown (b .«open_year») m s (firstYear + i) hm hs (omega arith) (omega arith) (at (b .lots) k) (closed-year _ _ _ (λ l. w .ahead k j l .0))
         ∙ ap (λ (n : ℕ). printed (b .«open_year») (above0 n (lot k n))) e
 
     shortage-line : (i : ℕ) → i < years → shortageLine (b .«open_year») (b .shortages) m s i ≡ printed (b .«open_year») (shortItem a m s i)
@@ -166,7 +159,7 @@ module _ (b : Book) (a : Accounts) (w : Sound b) (r : (k : Key) → In k → Rec
         let k : Key = key m s (firstYear + i) in
         let j : In k = omega arith in
         let e : at (b .shortages) k ≡ shortageBy a k = omega (arith, r k j .shortage) in
-        shortage-shown (b .«open_year») m s (firstYear + i) hm hs (omega arith) (omega arith) (at (b .shortages) k) (shortage-closed k j)
+        shortage-shown (b .«open_year») m s (firstYear + i) hm hs (omega arith) (omega arith) (at (b .shortages) k) (closed-year _ _ _ (λ l. w .ahead k j l .1))
         ∙ ap (λ (n : ℕ). printed (b .«open_year») (above0 n (short k n))) e
 
     cell-same : cellText b m s ≡ printed (b .«open_year») (cellItems a m s)

@@ -2,10 +2,10 @@
 use Prim.Native.Nat.{ℕ, zero, suc, _+_, _-_, _*_}
 use mathlib.Core.Bool.{true, cond}
 use mathlib.Core.List.{List, [], _∷_, _++_, map}
-use lib.Dec.{leb}
 use Rattle.figuring.specs.Years.{firstYear}
 use Rattle.book.specs.Sizes.{makers, sets, years}
 use Rattle.book.specs.Ledger.{Key, key, cell}
+use Rattle.book.specs.Life.{live, openShort}
 use Rattle.book.specs.Accounts.{Accounts, Entry, accountsOf}
 use Rattle.book.specs.declared.kinds.Call.{Call}
 use Rattle.text.specs.Ascii.{ascii}
@@ -75,10 +75,10 @@ abbrev pub rank : Item → ℕ
 rank (lot k n) = cell (k .maker) (k .kind) * (years + years) + (k .year - firstYear)
 rank (short k n) = cell (k .maker) (k .kind) * (years + years) + years + (k .year - firstYear)
 
--- a line's form: a lot of vintage v is live up to the open year v + 6, a shortage of year y open up to the open year y + 4
+-- a line's form: Y is the open year; a lot shown that is not live is expired, a shortage that is not open is overdue
 abbrev pub itemPattern : ℕ → Item → List ℕ
-itemPattern Y (lot k n) = cond (leb Y (k .year + 6)) (ascii "(lot # # # live #)") (ascii "(lot # # # expired #)")
-itemPattern Y (short k n) = cond (leb Y (k .year + 4)) (ascii "(short # # # open #)") (ascii "(short # # # overdue #)")
+itemPattern Y (lot k n) = cond (live Y (k .year)) (ascii "(lot # # # live #)") (ascii "(lot # # # expired #)")
+itemPattern Y (short k n) = cond (openShort Y (k .year)) (ascii "(short # # # open #)") (ascii "(short # # # overdue #)")
 
 -- and its figures: maker, set, year, Mg
 abbrev pub itemFigures : Item → List ℕ

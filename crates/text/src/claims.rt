@@ -45,7 +45,7 @@ pub fn desks_by_what_they_hold() -> bool
     true
 }
 
-// Document 01's own lines, answers and listing.
+// Of document 01's run a line of each form, an answer of each kind and the lines of its listing.
 pub fn run_of_the_paper() -> bool
     ensures { λ r. ⌜ (r ≡ true) × Run ⌝ }
 {

@@ -12,6 +12,7 @@ use mir.Syntax.{w64}
 use mir.Val.{SFits, toZ, ofZ}
 use mir.Facts.{toZ-ofZ}
 use lib.ListN.{length, length-append}
+use lib.Seq.{length-take-le}
 use Rattle.text.specs.declared.desk.Desk.{Desk}
 use Rattle.text.specs.declared.desk.Fed.{Fed}
 use Rattle.text.specs.Desk.{Terminal, Serves, atDesk, openDesk, ends}
@@ -21,7 +22,8 @@ use Rattle.text.proofs.StoreLaws.{same-long}
 use Rattle.credit_book.specs.declared.Wrote.{Wrote}
 use Rattle.credit_book.specs.declared.Said.{Said}
 use Rattle.credit_book.specs.declared.Turn.{Turn}
-use Rattle.credit_book.specs.Turns.{Says, Turned, Reading, ClosedBy, turnFine, readsOn, mostTurns}
+use Rattle.io.specs.Counts.{clamped}
+use Rattle.credit_book.specs.Turns.{chunkRoom, firstBytes, Says, Turned, Reading, ClosedBy, turnFine, readsOn, mostTurns}
 
 -- a desk's answers, handed over
 pub says : {t : Terminal} {out out′ : List ℕ} {f : Fed} {d : Desk} {wrote : Wrote} → Serves t out f out′ → d ≡ f .desk → wrote .handed ≡ f .at → Says t out d wrote out′
@@ -43,6 +45,11 @@ pub record SoFar (out₀ out : List ℕ) (d : Desk) (turns : ℕ) (more fine : B
 pub none-yet : {out : List ℕ} {d : Desk} → d ≡ openDesk → SoFar out out d 0 true true
 none-yet e = record { long = refl; within = omega arith; chunks = []; reading = rw e Reading.begun; counts = refl }
 
+-- as many bytes as the read answered
+as-long : (got : ℤ) (buffer : List ℕ) → length buffer ≡ chunkRoom → length (firstBytes got buffer) ≡ clamped got chunkRoom
+as-long (pos k) buffer e = length-take-le (clamped (pos k) chunkRoom) buffer (omega (arith, e))
+as-long (negsuc k) buffer e = length-take-le 0 buffer (omega arith)
+
 -- one turn more; the loop holds what the read answered as its bits
 pub next :
     {out₀ out out′ : List ℕ} {d : Desk} {turns : ℕ} {on before more fine : Bool} {r : Turn} → on ≡ true → turns < mostTurns → SoFar out₀ out d turns on before → Turned d out r out′
@@ -54,9 +61,9 @@ next {d = d} {before = before} {r = r} o h g s z f m =
     record {
       long = same-long (s .says .stands) ∙ g .long;
       within = omega arith;
-      chunks = g .chunks ++ (s .chunk ∷ []);
-      reading = rw (m, f, toZ-ofZ z, s .says .desk-is) (Reading.turn (s .chunk) (r .got) (r .interrupted) (r .wrote) (subst (λ (b : Bool). Reading (g .chunks) (atDesk d) b before) o (g .reading)) (s .came) (s .says .stands .end-is ∙ zero-add _));
-      counts = rw (length-append (g .chunks) (s .chunk ∷ [])) (omega (arith, g .counts));
+      chunks = g .chunks ++ (firstBytes (r .got) (s .buffer) ∷ []);
+      reading = rw (m, f, toZ-ofZ z, s .says .desk-is) (Reading.turn (firstBytes (r .got) (s .buffer)) (r .got) (r .interrupted) (r .wrote) (subst (λ (b : Bool). Reading (g .chunks) (atDesk d) b before) o (g .reading)) (as-long (r .got) (s .buffer) (s .long)) (s .says .stands .end-is ∙ zero-add _));
+      counts = rw (length-append (g .chunks) (firstBytes (r .got) (s .buffer) ∷ [])) (omega (arith, g .counts));
     }
 
 -- ---- what a read answered

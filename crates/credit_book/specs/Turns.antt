@@ -5,7 +5,7 @@ use mathlib.Core.Bool.{Bool, true, false, cond}
 use mathlib.Core.Path.{_≡_}
 use mathlib.Core.List.{List, [], _∷_, _++_}
 use lib.IntN.{ℤ, pos, negsuc}
-use lib.ListN.{length}
+use lib.ListN.{length, take}
 use Rattle.io.specs.Counts.{clamped}
 use Rattle.text.specs.declared.desk.Desk.{Desk}
 use Rattle.text.specs.Desk.{Terminal, atDesk, takesAll, ends}
@@ -34,6 +34,10 @@ pub record Says (t : Terminal) (out : List ℕ) (d : Desk) (wrote : Wrote) (out�
   pub desk-is : atDesk d ≡ written t
   pub stands : Stands (t .said) 0 out (wrote .handed) out′
 
+-- the first bytes of a buffer, as many as a read answered: none where it failed
+abbrev pub firstBytes : ℤ → List ℕ → List ℕ
+firstBytes got buffer = take (clamped got chunkRoom) buffer
+
 -- whether nothing failed in a turn, by what the read answered, whether a signal interrupted it, and whether the write was fine;
 -- an interrupted read is no failure
 abbrev pub turnFine : ℤ → Bool → Bool → Bool
@@ -46,11 +50,11 @@ readsOn (pos zero) fine = false
 readsOn (pos (suc k)) fine = fine
 readsOn (negsuc k) fine = fine
 
--- a turn: there is a chunk, as long as the read answered and empty where it failed, that the desk took; all that it said is written
+-- a turn: the desk took the first bytes of the buffer that the read was lent, and all that it said is written
 pub record Turned (d : Desk) (out : List ℕ) (r : Turn) (out′ : List ℕ) : Type 0 where
-  pub chunk : List ℕ
-  pub came : length chunk ≡ clamped (r .got) chunkRoom
-  pub says : Says (takesAll (atDesk d) chunk) out (r .desk) (r .wrote) out′
+  pub buffer : List ℕ
+  pub long : length buffer ≡ chunkRoom
+  pub says : Says (takesAll (atDesk d) (firstBytes (r .got) buffer)) out (r .desk) (r .wrote) out′
 
 -- the chunks that were read, the terminal that took them, whether there may be more, and whether nothing failed:
 -- in each turn all that the terminal said was handed over, and each turn but the last left more to read

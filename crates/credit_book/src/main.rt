@@ -7,7 +7,7 @@ ghost use lib.ListN.{length};
 ghost use Rattle.text.specs.Desk.{atDesk, ends, takesAll};
 ghost use Rattle.text.specs.Listing.{listing};
 ghost use Rattle.text.specs.Placing.{Stands};
-ghost use Rattle.credit_book.specs.Turns.{ClosedBy, RanBy, ReadBy, Says, Turned, atEnd, chunkRoom, outRoom, readsOn, turnFine};
+ghost use Rattle.credit_book.specs.Turns.{ClosedBy, RanBy, ReadBy, Says, Turned, atEnd, chunkRoom, firstBytes, outRoom, readsOn, turnFine};
 use libc::STDIN_FILENO;
 use libc::STDOUT_FILENO;
 use text::answering::ANSWER_ROOM;
@@ -135,7 +135,16 @@ fn reads_on(got: isize, fine: bool) -> bool
     if got == 0 { false } else { fine }
 }
 
-// Reads once, and answers what came, be it nothing.
+// Answers what a read left at the buffer's start, as many bytes as it answered, be it none.
+fn answer_read(desk: Desk, buffer: &[u8], got: isize, out: &mut [u8]) -> Said
+    requires { ⌜ (length (now buffer) ≡ chunkRoom) × (outRoom ≤ length (now out)) ⌝ }
+    ensures { λ r. ⌜ Says (takesAll (atDesk desk) (firstBytes got (now (buffer .entry)))) (now (out .entry)) (r .desk) (r .wrote) (now (out .exit)) ⌝ }
+{
+    let n = io::count(got, buffer);
+    answer_chunk(desk, &buffer[..n], out)
+}
+
+// Reads once, and answers what came.
 fn read_some(desk: Desk, out: &mut [u8]) -> Turn
     requires { ⌜ outRoom ≤ length (now out) ⌝ }
     ensures { λ r. ⌜ Turned desk (now (out .entry)) r (now (out .exit)) ⌝ }
@@ -146,8 +155,7 @@ fn read_some(desk: Desk, out: &mut [u8]) -> Turn
     if got < 0 && !interrupted {
         os::fail(b"credit-book: standard input");
     }
-    let n = io::count(got, &chunk);
-    let said = answer_chunk(desk, &chunk[..n], out);
+    let said = answer_read(desk, &chunk, got, out);
     let d = said.desk;
     let wrote = said.wrote;
     Turn {

@@ -50,7 +50,7 @@ readsOn (pos zero) fine = false
 readsOn (pos (suc k)) fine = fine
 readsOn (negsuc k) fine = fine
 
--- a turn: the desk took the first bytes of the buffer that the read was lent, and all that it said is written
+-- a turn: there is a buffer, in the code the one that the read was lent, whose first bytes the desk took; all that it said is written
 pub record Turned (d : Desk) (out : List ℕ) (r : Turn) (out′ : List ℕ) : Type 0 where
   pub buffer : List ℕ
   pub long : length buffer ≡ chunkRoom

@@ -1,25 +1,32 @@
--- The two ties between a book and its accounts, each over just the list of the book and the columns of the accounts that it
--- holds together, so that a call passes on untouched what it leaves alone; and what each movement does to them.
+-- `Agree`, the relation between a book and accounts that demand 3 rests on. It is ties, each over just the list of the book and
+-- the columns of the accounts that it holds together; here too is what each movement does to a tie.
 use Prim.Native.Nat.{ℕ, _+_, _-_, _*_, _≤_, _<_}
 use mathlib.Core.List.{List}
 use mathlib.Core.Path.{_≡_, sym, _∙_, ap}
 use native.Mathlib.Omega.{arith}
 use native.Mathlib.Decide.{ℕ-discrete}
 use borrow.Author.Tests.{eq-eqb, ne-eqb}
-use lib.ListN.{set, length, replicate, length-set, length-replicate}
+use lib.ListN.{set as store, length, replicate, length-set, length-replicate}
 use lib.IntN.{ℤ, pos}
 use Rattle.figuring.specs.Years.{firstYear, lastYear}
 use Rattle.book.specs.Sizes.{makers, sets, cells, families, places, allParts}
-use Rattle.book.specs.Ledger.{Key, key, In, cell, at, lower, raise, partAt, cellSum}
+use Rattle.book.specs.Ledger.{Key, key, In, cell, figureAt, lower, raise, partAt, cellSum}
 use Rattle.book.specs.Postings.{netted}
-use Rattle.book.specs.Accounts.{plus, plusℤ, inYear}
+use Rattle.book.specs.Accounts.{Accounts, bought, sold, applied, retired, covered}
+use Rattle.book.specs.Accounts.{sameKey, only, plusℤ, inYear}
+use Rattle.book.specs.Demand3.{Reconciled}
+use Rattle.book.specs.declared.ledger.Book.{Book}
 use Rattle.book.proofs.LedgerLaws.{at-raise, at-lower, length-raise, length-lower, netted-length, netted-in, netted-out, same-cell, other-year, onlyℤ-false, cellSum-put, cellSum-cleared}
+
+-- n more at k, and the rest as before
+abbrev plus : Key → ℕ → (Key → ℕ) → Key → ℕ
+plus k n f j = f j + only (sameKey k j) n
 
 -- What stands at each key is what was netted there and what came, less what went. Stated as a sum, so that no difference is
 -- needed. From the open year Y on nothing was netted yet.
 pub record Tied (Y : ℕ) (l : List ℕ) (net came went : Key → ℕ) : Type 0 where
   pub size : length l ≡ places
-  pub balance : (k : Key) → In k → at l k + went k ≡ net k + came k
+  pub balance : (k : Key) → In k → figureAt l k + went k ≡ net k + came k
   pub ahead : (k : Key) → In k → Y ≤ k .year → net k ≡ 0
 
 module _ {Y : ℕ} {l : List ℕ} {net came went : Key → ℕ} (h : Tied Y l net came went) where
@@ -30,7 +37,7 @@ module _ {Y : ℕ} {l : List ℕ} {net came went : Key → ℕ} (h : Tied Y l ne
   tied-as came′ went′ p q =
       record { size = h .size; balance = λ k i. omega (arith, h .balance k i, p k, q k); ahead = h .ahead }
 
-  pub tied-out : (k : Key) (n : ℕ) → In k → n ≤ at l k → Tied Y (lower l k n) net came (plus k n went)
+  pub tied-out : (k : Key) (n : ℕ) → In k → n ≤ figureAt l k → Tied Y (lower l k n) net came (plus k n went)
   tied-out k n i b =
       record {
         size = simp length-lower (h .size);
@@ -49,8 +56,8 @@ module _ {Y : ℕ} {l : List ℕ} {net came went : Key → ℕ} (h : Tied Y l ne
   -- the open year closes: the book writes v at each cell, the accounts u at each key, over a figure that was 0
   pub tied-net :
       (v : ℕ → ℕ) (u : Key → ℕ) → firstYear ≤ Y → Y ≤ lastYear
-      → ((k : Key) → In k → k .year ≡ Y → u k ≡ v (cell (k .maker) (k .kind)))
-      → ((k : Key) → In k → k .year ≡ Y → at l k ≡ 0)
+      → ((k : Key) → In k → k .year ≡ Y → u k ≡ v (cell (k .maker) (k .set)))
+      → ((k : Key) → In k → k .year ≡ Y → figureAt l k ≡ 0)
       → Tied (Y + 1) (netted (Y - firstYear) v cells l) (inYear Y u net) came went
   tied-net v u low high same zero =
       record {
@@ -61,7 +68,7 @@ module _ {Y : ℕ} {l : List ℕ} {net came went : Key → ℕ} (h : Tied Y l ne
     where
       go :
           (k : Key) → In k → Dec (k .year ≡ Y)
-          → at (netted (Y - firstYear) v cells l) k + went k ≡ inYear Y u net k + came k
+          → figureAt (netted (Y - firstYear) v cells l) k + went k ≡ inYear Y u net k + came k
       go k i (yes p) =
           rw (eq-eqb (k .year) Y p, same k i p, netted-in Y v l k (h .size) i p)
           (omega (arith, h .balance k i, h .ahead k i (omega arith), zero k i p))
@@ -77,7 +84,7 @@ module _ {Y : ℕ} {parts : List ℤ} {sum : Key → ℤ} (h : Sums Y parts sum)
   -- a part stored where there was none
   pub sums-put :
       (m s f y : ℕ) (z : ℤ) → m < makers → s < sets → f < families → y ≡ Y → partAt parts (cell m s) f ≡ pos 0
-      → Sums Y (set parts (cell m s * families + f) z) (plusℤ (key m s y) z sum)
+      → Sums Y (store parts (cell m s * families + f) z) (plusℤ (key m s y) z sum)
   sums-put m s f y z hm hs hf e zero =
       record {
         size = simp length-set (h .size);
@@ -97,7 +104,19 @@ module _ {Y : ℕ} {parts : List ℤ} {sum : Key → ℤ} (h : Sums Y parts sum)
       }
 
   -- the sum of any key of the open year
-  pub sums-at : (k : Key) → In k → k .year ≡ Y → sum k ≡ cellSum parts (cell (k .maker) (k .kind))
+  pub sums-at : (k : Key) → In k → k .year ≡ Y → sum k ≡ cellSum parts (cell (k .maker) (k .set))
   sums-at k i e =
-      let q : k ≡ key (k .maker) (k .kind) Y = λ j. record { maker = k .maker; kind = k .kind; year = e j } in
-      ap sum q ∙ h .current (k .maker) (k .kind) (i .maker) (i .kind)
+      let q : k ≡ key (k .maker) (k .set) Y = λ j. record { maker = k .maker; set = k .set; year = e j } in
+      ap sum q ∙ h .current (k .maker) (k .set) (i .maker) (i .set)
+
+-- ---- a book and accounts that agree. Soundness is no part of it: an accepted call shows it by the head.
+pub record Agree (b : Book) (a : Accounts) : Type 0 where
+  pub sums : Sums (b .«open_year») (b .parts) (a .sum)
+  pub lots :
+      Tied (b .«open_year») (b .lots) (a .earned) (a .mg bought)
+      (λ k. a .mg sold k + a .mg applied k + a .mg retired k)
+  pub shortages : Tied (b .«open_year») (b .shortages) (a .shortfall) (λ k. 0) (a .mg covered)
+
+pub agree-reconciled : (b : Book) (a : Accounts) → Agree b a → (k : Key) → In k → Reconciled b a k
+agree-reconciled b a h k i =
+    record { lot = omega (arith, h .lots .balance k i); shortage = omega (arith, h .shortages .balance k i) }

@@ -7,7 +7,7 @@ use native.Mathlib.Omega.{arith}
 use native.Mathlib.Numerals.{add-one}
 use borrow.Author.Tests.{eqb-true, eqb-false, not-false}
 use lib.Dec.{ltb, eqb}
-use lib.ListN.{set}
+use lib.ListN.{set as store}
 use lib.IntN.{ℤ, natAbs, _+ℤ_}
 use mir.Syntax.{w64}
 use mir.Val.{toZ, ofZ}
@@ -18,7 +18,7 @@ use Rattle.book.specs.Sizes.{cells, families, years, allClosed}
 use Rattle.book.specs.Below.{sumBelow, sumBelowℤ, countBelow, oneIf}
 use Rattle.book.specs.Soundness.{sound}
 use Rattle.book.specs.Refusals.{firstRefusal}
-use Rattle.book.specs.Rules.{closeTable}
+use Rattle.book.specs.Rules.{closeRows}
 use Rattle.book.specs.Postings.{netted, earnedBy, shortBy}
 use Rattle.book.specs.declared.ledger.Book.{Book}
 use Rattle.book.specs.declared.answers.Verdict.the-variants.{Accepted}
@@ -36,11 +36,11 @@ pub record Closable (b : Book) (y : ℕ) : Type 0 where
   pub from : firstYear ≤ b .«open_year»
   pub upto : b .«open_year» ≤ lastYear
 
-pub closable : (b : Book) (y : ℕ) → firstRefusal (closeTable b y) ≡ Accepted → Closable b y
-unfolding closeTable
-closable b y e =
-    let p = cleared (closeTable b y) e in
-    let s : sound b ≡ true = not-false (sound b) (search) in
+pub closable :
+    (b : Book) (y : ℕ) → sound b ≡ true → firstRefusal (closeRows (b .«open_year») y) ≡ Accepted → Closable b y
+unfolding closeRows
+closable b y s e =
+    let p = cleared (closeRows (b .«open_year») y) e in
     record {
       sound = s;
       year = eqb-true y (b .«open_year») (not-false (eqb y (b .«open_year»)) (search));
@@ -62,7 +62,7 @@ none-netted b i = record { bound = omega arith; lots = refl; shortages = refl; s
 
 netted-more :
     (i : ℕ) (v : ℕ → ℕ) (n : ℕ) (l : List ℕ)
-    → netted i v (n + 1) l ≡ set (netted i v n l) (n * years + i) (v n)
+    → netted i v (n + 1) l ≡ store (netted i v n l) (n * years + i) (v n)
 unfolding netted
 netted-more i v n l = rw add-one
 
@@ -70,7 +70,7 @@ pub one-more :
     {b : Book} {i : ℕ} {l s : List ℕ} {k n earned lacks one : ℕ}
     → Netted b i l s k n
     → n < cells → earned ≡ earnedBy b n → lacks ≡ shortBy b n → one ≡ oneIf (ltb 0 lacks)
-    → Netted b i (set l (n * years + i) earned) (set s (n * years + i) lacks) (k + one) (n + 1)
+    → Netted b i (store l (n * years + i) earned) (store s (n * years + i) lacks) (k + one) (n + 1)
 one-more {b} {i} {l} {s} {k} {n} {earned} {lacks} {one} h m e d o =
     record {
       bound = omega arith;

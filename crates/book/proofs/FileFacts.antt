@@ -17,7 +17,7 @@ use Rattle.book.specs.Sizes.{makers, sets, families}
 use Rattle.book.specs.Ledger.{marked}
 use Rattle.book.specs.Soundness.{sound}
 use Rattle.book.specs.Refusals.{firstRefusal}
-use Rattle.book.specs.Rules.{fileTable}
+use Rattle.book.specs.Rules.{fileRows}
 use Rattle.book.specs.Postings.{filingCell}
 use Rattle.book.specs.declared.ledger.Book.{Book}
 use Rattle.book.specs.declared.kinds.Filing.{Filing}
@@ -28,7 +28,7 @@ use Rattle.book.proofs.CloseFacts.{still-open}
 pub record Fileable (b : Book) (f : Filing) : Type 0 where
   pub sound : sound b ≡ true
   pub maker : f .maker < makers
-  pub kind : f .set < sets
+  pub set : f .set < sets
   pub year : f .year ≡ b .«open_year»
   pub upto : b .«open_year» ≤ lastYear
   pub standard : isAbsent (standardFor (f .set) (f .«vehicle_use») (f .year)) ≡ false
@@ -36,15 +36,16 @@ pub record Fileable (b : Book) (f : Filing) : Type 0 where
   pub limits : withinLimits (f .fcl) (f .cf) (f .volume) (f .life) ≡ true
   pub unmarked : marked (getD (b .marks) (filingCell f) 0) (f .family) ≡ false
 
-pub fileable : (b : Book) (f : Filing) → firstRefusal (fileTable b f) ≡ Accepted → Fileable b f
-unfolding fileTable
-fileable b f e =
-    let p = cleared (fileTable b f) e in
-    let s : sound b ≡ true = not-false (sound b) (search) in
+pub fileable :
+    (b : Book) (f : Filing) → sound b ≡ true → firstRefusal (fileRows (b .«open_year») (b .marks) f) ≡ Accepted
+    → Fileable b f
+unfolding fileRows
+fileable b f s e =
+    let p = cleared (fileRows (b .«open_year») (b .marks) f) e in
     record {
       sound = s;
       maker = leb-false makers (f .maker) (search);
-      kind = leb-false sets (f .set) (search);
+      set = leb-false sets (f .set) (search);
       year = eqb-true (f .year) (b .«open_year») (not-false (eqb (f .year) (b .«open_year»)) (search));
       upto = still-open b s (search);
       standard = search;

@@ -10,10 +10,9 @@ use Rattle.figuring.specs.Parts.{partMost}
 use Rattle.book.specs.Sizes.{makers, cells, families, places, allParts, allClosed}
 use Rattle.book.specs.Ledger.{key, partAt}
 use Rattle.book.specs.Soundness.{sound, lotOf}
-use Rattle.book.specs.Postings.{freshBook}
+use Rattle.book.specs.Postings.{emptyIn, freshBook}
 use Rattle.book.specs.Companions.{Sized}
 use Rattle.book.specs.Marked.{lastOpen}
-use Rattle.book.specs.declared.ledger.Book.{Book}
 use Rattle.book.proofs.BelowLaws.{sum-zero}
 use Rattle.book.proofs.LedgerLaws.{at-zeros}
 use Rattle.book.proofs.SoundnessLaws.{is-sound}
@@ -25,20 +24,9 @@ no-part c f hc hf = getD-replicate allParts (c * families + f) (pos 0) (pos 0) (
 pub no-part-bounded : (c f : ℕ) → c < cells → f < families → natAbs (partAt (replicate allParts (pos 0)) c f) ≤ partMost
 no-part-bounded c f hc hf = omega (arith, ap natAbs (no-part c f hc hf))
 
--- nothing in it, and the open year y
-abbrev pub empty : ℕ → Book
-empty y =
-    record {
-      «open_year» = y;
-      marks = replicate cells 0;
-      parts = replicate allParts (pos 0);
-      lots = replicate places 0;
-      shortages = replicate places 0;
-    }
-
-pub empty-sound : (y : ℕ) → firstYear ≤ y → y ≤ allClosed → sound (empty y) ≡ true
+pub empty-sound : (y : ℕ) → firstYear ≤ y → y ≤ allClosed → sound (emptyIn y) ≡ true
 empty-sound y l h =
-    is-sound (empty y) (record {
+    is-sound (emptyIn y) (record {
       low = l;
       high = h;
       bounded = no-part-bounded;
@@ -48,11 +36,11 @@ empty-sound y l h =
       total = λ s i hs hi.
           omega (
             arith,
-            sum-zero (lotOf (empty y .lots) s i) makers (λ m hm. at-zeros (key m s (firstYear + i)) (omega arith)),
+            sum-zero (lotOf (emptyIn y .lots) s i) makers (λ m hm. at-zeros (key m s (firstYear + i)) (omega arith)),
           );
     })
 
-pub empty-sized : (y : ℕ) → Sized (empty y)
+pub empty-sized : (y : ℕ) → Sized (emptyIn y)
 empty-sized y =
     record {
       marks = length-replicate {A = ℕ} cells 0;

@@ -16,7 +16,7 @@ use Rattle.figuring.specs.Years.{firstYear, lastYear}
 use Rattle.figuring.proofs.BoolLaws.{both}
 use Rattle.book.specs.Sizes.{sets, cells, families, years, places, allParts}
 use Rattle.book.specs.Below.{sumBelowℤ}
-use Rattle.book.specs.Ledger.{Key, key, In, place, at, lower, raise, cell, cellSum, partAt}
+use Rattle.book.specs.Ledger.{Key, key, In, place, figureAt, lower, raise, cell, cellSum, partAt}
 use Rattle.book.specs.Postings.{netted}
 use Rattle.book.specs.Accounts.{sameKey, only, onlyℤ}
 use Rattle.book.proofs.BelowLaws.{sumℤ-same, sumℤ-zero, sumℤ-change}
@@ -30,7 +30,7 @@ same-false : (k j : Key) → In k → In j → sameKey k j ≡ false → place j
 unfolding sameKey
 same-false k j hk hj e = λ i.
     let m : k .maker ≡ j .maker = omega arith in
-    let s : k .kind ≡ j .kind = omega arith in
+    let s : k .set ≡ j .set = omega arith in
     let y : k .year ≡ j .year = omega arith in
     let t : sameKey k j ≡ true = simp (eq-eqb _ _ m, eq-eqb _ _ s, eq-eqb _ _ y) in
     let z : _≡_ {A = ℕ} 0 1 = cc in omega arith
@@ -42,7 +42,7 @@ same-true k j e =
     let q = both _ _ (p .1) in
     λ i. record {
       maker = eqb-true (k .maker) (j .maker) (p .0) i;
-      kind = eqb-true (k .kind) (j .kind) (q .0) i;
+      set = eqb-true (k .set) (j .set) (q .0) i;
       year = eqb-true (k .year) (j .year) (q .1) i;
     }
 
@@ -50,40 +50,40 @@ place-below : (k : Key) → In k → place k < places
 place-below k h = omega arith
 
 -- what stands at a key after one place was raised or lowered
-set-at : (l : List ℕ) (k j : Key) (v : ℕ) (t : Bool) → sameKey k j ≡ t → length l ≡ places → In k → In j → at (set l (place k) v) j ≡ elim t [ true ↦ v | false ↦ at l j ]
-unfolding at
+set-at : (l : List ℕ) (k j : Key) (v : ℕ) (t : Bool) → sameKey k j ≡ t → length l ≡ places → In k → In j → figureAt (set l (place k) v) j ≡ elim t [ true ↦ v | false ↦ figureAt l j ]
+unfolding figureAt
 set-at l k j v true e n hk hj =
     rw (← same-true k j e) (getD-set-same l (place k) v 0 (omega (arith, place-below k hk)))
 set-at l k j v false e n hk hj = getD-set-other l (place k) (place j) v 0 (same-false k j hk hj e)
 
-pub at-raise : (l : List ℕ) (k j : Key) (n : ℕ) → length l ≡ places → In k → In j → at (raise l k n) j ≡ at l j + only (sameKey k j) n
+pub at-raise : (l : List ℕ) (k j : Key) (n : ℕ) → length l ≡ places → In k → In j → figureAt (raise l k n) j ≡ figureAt l j + only (sameKey k j) n
 unfolding raise only
 at-raise l k j n h hk hj = go (sameKey k j) refl
   where
-    go : (t : Bool) → sameKey k j ≡ t → at (set l (place k) (at l k + n)) j ≡ at l j + only t n
+    go : (t : Bool) → sameKey k j ≡ t → figureAt (set l (place k) (figureAt l k + n)) j ≡ figureAt l j + only t n
     go true e = set-at l k j _ true e h hk hj ∙ rw (same-true k j e)
     go false e = set-at l k j _ false e h hk hj ∙ omega arith
 
-pub at-lower : (l : List ℕ) (k j : Key) (n : ℕ) → length l ≡ places → In k → In j → n ≤ at l k → at (lower l k n) j + only (sameKey k j) n ≡ at l j
+pub at-lower : (l : List ℕ) (k j : Key) (n : ℕ) → length l ≡ places → In k → In j → n ≤ figureAt l k → figureAt (lower l k n) j + only (sameKey k j) n ≡ figureAt l j
 unfolding lower only
 at-lower l k j n h hk hj b = go (sameKey k j) refl
   where
-    go : (t : Bool) → sameKey k j ≡ t → at (set l (place k) (at l k - n)) j + only t n ≡ at l j
-    go true e = omega (arith, set-at l k j (at l k - n) true e h hk hj, ap (at l) (same-true k j e))
-    go false e = omega (arith, set-at l k j (at l k - n) false e h hk hj)
+    go : (t : Bool) → sameKey k j ≡ t → figureAt (set l (place k) (figureAt l k - n)) j + only t n ≡ figureAt l j
+    go true e = omega (arith, set-at l k j (figureAt l k - n) true e h hk hj, ap (figureAt l) (same-true k j e))
+    go false e = omega (arith, set-at l k j (figureAt l k - n) false e h hk hj)
 
 -- what stands at a key of another year is untouched, whatever the list's length
-elsewhere : (l : List ℕ) (k j : Key) (v : ℕ) → In k → In j → k .year ≢ j .year → at (set l (place k) v) j ≡ at l j
-unfolding at
+elsewhere : (l : List ℕ) (k j : Key) (v : ℕ) → In k → In j → k .year ≢ j .year → figureAt (set l (place k) v) j ≡ figureAt l j
+unfolding figureAt
 elsewhere l k j v hk hj h = getD-set-other l (place k) (place j) v 0 (λ e. h (omega arith))
 
-pub lower-elsewhere : (l : List ℕ) (k j : Key) (n : ℕ) → In k → In j → k .year ≢ j .year → at (lower l k n) j ≡ at l j
+pub lower-elsewhere : (l : List ℕ) (k j : Key) (n : ℕ) → In k → In j → k .year ≢ j .year → figureAt (lower l k n) j ≡ figureAt l j
 unfolding lower
-lower-elsewhere l k j n = elsewhere l k j (at l k - n)
+lower-elsewhere l k j n = elsewhere l k j (figureAt l k - n)
 
-pub raise-elsewhere : (l : List ℕ) (k j : Key) (n : ℕ) → In k → In j → k .year ≢ j .year → at (raise l k n) j ≡ at l j
+pub raise-elsewhere : (l : List ℕ) (k j : Key) (n : ℕ) → In k → In j → k .year ≢ j .year → figureAt (raise l k n) j ≡ figureAt l j
 unfolding raise
-raise-elsewhere l k j n = elsewhere l k j (at l k + n)
+raise-elsewhere l k j n = elsewhere l k j (figureAt l k + n)
 
 pub length-raise : (l : List ℕ) (k : Key) (n : ℕ) → length (raise l k n) ≡ length l
 unfolding raise
@@ -132,7 +132,7 @@ same-cell m s n t y z hs ht h = go (ℕ-discrete (cell m s) (cell n t))
         bool-false _ (λ e.
         let q = same-true (key m s y) (key n t z) e in
         let em : m ≡ n = ap (λ (k : Key). k .maker) q in
-        let es : s ≡ t = ap (λ (k : Key). k .kind) q in
+        let es : s ≡ t = ap (λ (k : Key). k .set) q in
         omega arith) ∙ sym (ne-eqb _ _ p)
 
 pub other-year : (k j : Key) → k .year ≢ j .year → sameKey k j ≡ false
@@ -172,14 +172,14 @@ unfolding cellSum
 cellSum-cleared c h = sumℤ-zero _ families (λ i hi. getD-replicate allParts (c * families + i) (pos 0) (pos 0) (omega arith))
 
 -- ── a close at a key: of the year closed, and of another
-pub netted-in : (y : ℕ) (v : ℕ → ℕ) (l : List ℕ) (k : Key) → length l ≡ places → In k → k .year ≡ y → at (netted (y - firstYear) v cells l) k ≡ v (cell (k .maker) (k .kind))
-unfolding at
-netted-in y v l k n i e = rw (← e) (netted-here (k .year - firstYear) v cells l (cell (k .maker) (k .kind)) (omega arith) (omega arith) (omega arith))
+pub netted-in : (y : ℕ) (v : ℕ → ℕ) (l : List ℕ) (k : Key) → length l ≡ places → In k → k .year ≡ y → figureAt (netted (y - firstYear) v cells l) k ≡ v (cell (k .maker) (k .set))
+unfolding figureAt
+netted-in y v l k n i e = rw (← e) (netted-here (k .year - firstYear) v cells l (cell (k .maker) (k .set)) (omega arith) (omega arith) (omega arith))
 
-pub netted-out : (y : ℕ) (v : ℕ → ℕ) (l : List ℕ) (k : Key) → In k → firstYear ≤ y → y ≤ lastYear → k .year ≢ y → at (netted (y - firstYear) v cells l) k ≡ at l k
-unfolding at
+pub netted-out : (y : ℕ) (v : ℕ → ℕ) (l : List ℕ) (k : Key) → In k → firstYear ≤ y → y ≤ lastYear → k .year ≢ y → figureAt (netted (y - firstYear) v cells l) k ≡ figureAt l k
+unfolding figureAt
 netted-out y v l k i h j e = netted-other (y - firstYear) v cells l (place k) (λ c d. omega arith)
 
-pub at-zeros : (k : Key) → In k → at (replicate places 0) k ≡ 0
-unfolding at
+pub at-zeros : (k : Key) → In k → figureAt (replicate places 0) k ≡ 0
+unfolding figureAt
 at-zeros k i = getD-replicate places (place k) 0 0 (place-below k i)

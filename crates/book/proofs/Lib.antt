@@ -9,6 +9,11 @@ pub mod FileFacts
 pub mod CloseFacts
 pub mod MoveFacts
 pub mod Balances
+pub mod Lawful
+pub mod FilingLaws
+pub mod ClosingLaws
+pub mod MovingLaws
+pub mod CallLaws
 pub mod Reconciliation
 pub mod StrikeOut
 pub mod Staying
@@ -19,8 +24,5 @@ pub mod MarkedFigures
 pub mod InPlaceWalk
 pub mod LentWalk
 pub mod DispatchWalk
-pub mod KeptByClosing
-pub mod KeptByFiling
-pub mod KeptByMoving
 pub mod TotalLaws
 pub mod RefusalLaws

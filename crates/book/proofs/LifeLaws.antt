@@ -9,7 +9,7 @@ use borrow.Author.Tests.{ltb-true, leb-true, not-false, lt-ltb, le-ltb, le-leb, 
 use lib.Dec.{ltb, leb}
 use Rattle.figuring.specs.Years.{firstYear}
 use Rattle.figuring.proofs.BoolLaws.{both}
-use Rattle.book.specs.Ledger.{key, In, at}
+use Rattle.book.specs.Ledger.{key, In, figureAt}
 use Rattle.book.specs.Life.{closedYear, live, openShort}
 use Rattle.book.specs.Listing.{isCellYear}
 use Rattle.book.proofs.BelowLaws.{and-intro, second-fails}
@@ -91,17 +91,17 @@ cell-year m s y e =
     let r = both _ _ (q .1) in
     record {
       maker = ltb-true _ _ (p .0);
-      kind = ltb-true _ _ (q .0);
+      set = ltb-true _ _ (q .0);
       from = leb-true _ _ (r .0);
       upto = leb-true _ _ (r .1);
     }
 
 pub hidden :
-    (l : List ℕ) (m s y : ℕ) {n : ℕ} → n ≡ at l (key m s y) → n ≡ 0
-    → (isCellYear m s y && ltb 0 (at l (key m s y))) ≡ false
-hidden l m s y e z = second-fails (isCellYear m s y) (le-ltb 0 (at l (key m s y)) (omega arith))
+    (l : List ℕ) (m s y : ℕ) {n : ℕ} → n ≡ figureAt l (key m s y) → n ≡ 0
+    → (isCellYear m s y && ltb 0 (figureAt l (key m s y))) ≡ false
+hidden l m s y e z = second-fails (isCellYear m s y) (le-ltb 0 (figureAt l (key m s y)) (omega arith))
 
 pub shown :
-    (l : List ℕ) (m s y : ℕ) {n : ℕ} → isCellYear m s y ≡ true → n ≡ at l (key m s y) → (n ≡ 0 → ⊥)
-    → (isCellYear m s y && ltb 0 (at l (key m s y))) ≡ true
-shown l m s y i e z = and-intro i (lt-ltb 0 (at l (key m s y)) (omega (arith, z)))
+    (l : List ℕ) (m s y : ℕ) {n : ℕ} → isCellYear m s y ≡ true → n ≡ figureAt l (key m s y) → (n ≡ 0 → ⊥)
+    → (isCellYear m s y && ltb 0 (figureAt l (key m s y))) ≡ true
+shown l m s y i e z = and-intro i (lt-ltb 0 (figureAt l (key m s y)) (omega (arith, z)))

@@ -8,12 +8,12 @@ use Rattle.figuring.specs.Parts.{withinLimits, between}
 use Rattle.figuring.specs.Netting.{earnedOf}
 use Rattle.figuring.proofs.MarkedLaws as Figuring
 use Rattle.book.specs.Below.{sumBelowℤ}
-use Rattle.book.specs.Ledger.{key, at, marked, cellSum}
+use Rattle.book.specs.Ledger.{key, figureAt, marked, cellSum}
 use Rattle.book.specs.Life.{live, expired, openShort, overdue, closedYear}
 use Rattle.book.specs.Soundness.{sound}
-use Rattle.book.specs.Refusals.{numberOf, refusalIn}
-use Rattle.book.specs.Postings.{freshBook, stored, closed, earnedBy}
-use Rattle.book.specs.Rules.{posted, table, done, fileTable, closeTable}
+use Rattle.book.specs.Refusals.{refusalIn}
+use Rattle.book.specs.Postings.{freshBook, stored, closeDone, earnedBy}
+use Rattle.book.specs.Rules.{posted, table, headRows, ownRows, done, fileRows, closeRows}
 use Rattle.book.specs.Demand3.{isAccepted}
 use Rattle.book.specs.Companions.{Sized}
 use Rattle.book.specs.Marked.{MarkedFigures, lastOpen, onePart, twoParts}
@@ -23,7 +23,7 @@ use Rattle.book.specs.declared.answers.Posted.{Posted}
 use Rattle.book.proofs.LedgerLaws.{netted-in}
 use Rattle.book.proofs.SoundnessLaws.{Sound, sound-is, is-sound}
 use Rattle.book.proofs.FreshSound.{fresh-sound, fresh-sized, last-sound, last-sized}
-use Rattle.book.proofs.KeptByFiling.{stored-sized, stored-sound}
+use Rattle.book.proofs.FilingLaws.{stored-sized, stored-sound}
 use Rattle.book.proofs.KeptSound.{keeps-sound}
 
 -- ---- P7, of a close: the parts are added before figuring's P7 rounds them. The book is sound by the laws.
@@ -46,36 +46,36 @@ two-earned : earnedBy twoParts 0 ≡ 1
 unfolding twoParts onePart stored freshBook cellSum sumBelowℤ earnedOf
 two-earned = ap earnedOf (Figuring.marked-figures .P7)
 
-close-two : posted twoParts (Call.Close 2014) ≡ closed twoParts
-unfolding posted table closeTable done twoParts onePart stored freshBook
+close-two : posted twoParts (Call.Close 2014) ≡ closeDone twoParts
+unfolding posted table headRows ownRows closeRows done twoParts onePart stored freshBook
 close-two = rw (is-sound twoParts two-sound)
 
 two-taken : isAccepted (posted twoParts (Call.Close 2014) .answer) ≡ true
-unfolding closed isAccepted
+unfolding closeDone isAccepted
 two-taken = ap (λ (p : Posted). isAccepted (p .answer)) close-two
 
-two-lot : at (posted twoParts (Call.Close 2014) .book .lots) (key 0 0 2014) ≡ 1
-unfolding closed twoParts onePart stored freshBook
+two-lot : figureAt (posted twoParts (Call.Close 2014) .book .lots) (key 0 0 2014) ≡ 1
+unfolding closeDone twoParts onePart stored freshBook
 two-lot =
-    ap (λ (p : Posted). at (p .book .lots) (key 0 0 2014)) close-two
+    ap (λ (p : Posted). figureAt (p .book .lots) (key 0 0 2014)) close-two
     ∙ netted-in 2014 (earnedBy twoParts) (twoParts .lots) (key 0 0 2014) (two-sized .lots) (omega arith) refl ∙ two-earned
 
 -- ---- P12: the book after the last close is sound by the laws, and its open year is 2038
-close-last : posted lastOpen (Call.Close 2037) ≡ closed lastOpen
-unfolding posted table closeTable done lastOpen
+close-last : posted lastOpen (Call.Close 2037) ≡ closeDone lastOpen
+unfolding posted table headRows ownRows closeRows done lastOpen
 close-last = rw last-sound
 
 close-taken : isAccepted (posted lastOpen (Call.Close 2037) .answer) ≡ true
-unfolding closed isAccepted
+unfolding closeDone isAccepted
 close-taken = ap (λ (p : Posted). isAccepted (p .answer)) close-last
 
 all-closed : posted lastOpen (Call.Close 2037) .book .«open_year» ≡ 2038
-unfolding closed lastOpen
+unfolding closeDone lastOpen
 all-closed = ap (λ (p : Posted). p .book .«open_year») close-last
 
 refused-by-5 :
     (b : Book) → sound b ≡ true → b .«open_year» ≡ 2038 → refusalIn (posted b (Call.Close 2038) .answer) ≡ 5
-unfolding posted table closeTable refusalIn numberOf
+unfolding posted table headRows ownRows closeRows refusalIn
 refused-by-5 b s y = rw (s, y)
 
 close-refused : refusalIn (posted (posted lastOpen (Call.Close 2037) .book) (Call.Close 2038) .answer) ≡ 5
@@ -85,7 +85,7 @@ close-refused =
 
 -- ---- all of them
 pub marked-figures : MarkedFigures
-unfolding live expired openShort overdue closedYear posted table fileTable done stored freshBook isAccepted refusalIn numberOf marked standardFor tractor column isAbsent withinLimits between
+unfolding live expired openShort overdue closedYear posted table headRows ownRows fileRows done stored freshBook isAccepted refusalIn marked standardFor tractor column isAbsent withinLimits between
 marked-figures =
     record {
       figuring = Figuring.marked-figures;

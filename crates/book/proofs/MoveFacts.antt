@@ -1,20 +1,20 @@
 -- What an accepted trade, application or retirement says, as facts: the code's needs and the theorems cite these
--- records, never a table's rows.
+-- records, never a call's rows.
 use Prim.Native.Nat.{ℕ, _+_, _-_, _^_, _≤_, _<_}
-use mathlib.Core.Bool.{false, not}
+use mathlib.Core.Bool.{true, false, not}
 use mathlib.Core.Logic.{_≢_}
 use mathlib.Core.Path.{_≡_}
 use native.Mathlib.Omega.{arith}
-use borrow.Author.Tests.{ltb-false, leb-false, eqb-false, not-false}
+use borrow.Author.Tests.{ltb-false, leb-false, eqb-false}
 use lib.Dec.{ltb, eqb}
-use lib.ListN.{getD, set}
+use lib.ListN.{getD, set as store}
 use lib.Seq.{getD-set-other}
-use Rattle.book.specs.Sizes.{makers, sets}
-use Rattle.book.specs.Ledger.{Key, In, place, at, lower, raise}
+use Rattle.book.specs.Sizes.{makers, sets, allClosed}
+use Rattle.book.specs.Ledger.{Key, In, place, figureAt, lower, raise}
 use Rattle.book.specs.Soundness.{sound}
 use Rattle.book.specs.Life.{live, openShort, hasShortage}
 use Rattle.book.specs.Refusals.{firstRefusal}
-use Rattle.book.specs.Rules.{tradeTable, applyTable, retireTable}
+use Rattle.book.specs.Rules.{tradeRows, applyRows, retireRows}
 use Rattle.book.specs.Postings.{sellerLot, buyerLot, appliedLot, coveredShortage, retiredLot}
 use Rattle.book.specs.declared.ledger.Book.{Book}
 use Rattle.book.specs.declared.kinds.Trade.{Trade}
@@ -25,34 +25,35 @@ use Rattle.book.proofs.TableLaws.{cleared}
 use Rattle.book.proofs.SoundnessLaws.{Sound, sound-is, sound-lot}
 use Rattle.book.proofs.LifeLaws.{Live, live-is, OpenShort, open-is}
 
+-- a live vintage and an open shortage's year are years of the book
+module _ (Y : ℕ) (k : Key) (high : Y ≤ allClosed) (m : k .maker < makers) (i : k .set < sets) where
+  pub live-in : not (live Y (k .year)) ≡ false → In k
+  live-in v = omega (arith, live-is _ _ v)
+
+  pub open-in : not (openShort Y (k .year)) ≡ false → In k
+  open-in v = omega (arith, open-is _ _ v)
+
 -- ---- a lot that pays n, which the three calls share
 pub record Pays (b : Book) (k : Key) (n : ℕ) : Type 0 where
   pub sound : Sound b
   pub lot : In k
   pub live : Live (b .«open_year») (k .year)
   pub some : n ≢ 0
-  pub enough : n ≤ at (b .lots) k
+  pub enough : n ≤ figureAt (b .lots) k
 
-module _ (b : Book) (k : Key) (s : not (sound b) ≡ false) (m : k .maker < makers) (i : k .kind < sets) where
-  -- a live vintage and an open shortage's year are years of the book
-  pub live-in : not (live (b .«open_year») (k .year)) ≡ false → In k
-  live-in v = omega (arith, sound-is b (not-false _ s), live-is _ _ v)
-
-  pub open-in : not (openShort (b .«open_year») (k .year)) ≡ false → In k
-  open-in v = omega (arith, sound-is b (not-false _ s), open-is _ _ v)
-
-  -- the lot k pays n, by the rows that the three tables share
-  pub pays :
-      (n : ℕ) → not (live (b .«open_year») (k .year)) ≡ false → eqb n 0 ≡ false → ltb (at (b .lots) k) n ≡ false
-      → Pays b k n
-  pays n v z e =
-      record {
-        sound = sound-is b (not-false _ s);
-        lot = live-in v;
-        live = live-is _ _ v;
-        some = eqb-false n 0 z;
-        enough = ltb-false _ n e;
-      }
+-- the lot k pays n, by the rows that the three calls share
+pays :
+    (b : Book) (k : Key) (n : ℕ) → Sound b → k .maker < makers → k .set < sets
+    → not (live (b .«open_year») (k .year)) ≡ false → eqb n 0 ≡ false → ltb (figureAt (b .lots) k) n ≡ false
+    → Pays b k n
+pays b k n s m i v z e =
+    record {
+      sound = s;
+      lot = live-in _ k (s .high) m i v;
+      live = live-is _ _ v;
+      some = eqb-false n 0 z;
+      enough = ltb-false _ n e;
+    }
 
 -- ---- trade
 pub record Tradable (b : Book) (t : Trade) : Type 0 where
@@ -61,34 +62,36 @@ pub record Tradable (b : Book) (t : Trade) : Type 0 where
   pub apart : t .from ≢ t .to
   pub clear : hasShortage (b .shortages) (t .from) (t .set) ≡ false
   -- what the buyer's lot comes to is below 2 ^ 64
-  pub room : at (b .lots) (buyerLot t) + t .mg < 2 ^ 64
+  pub room : figureAt (b .lots) (buyerLot t) + t .mg < 2 ^ 64
 
-pub tradable : (b : Book) (t : Trade) → firstRefusal (tradeTable b t) ≡ Accepted → Tradable b t
-unfolding tradeTable
-tradable b t e =
-    let h = cleared (tradeTable b t) e in
+pub tradable :
+    (b : Book) (t : Trade) → sound b ≡ true
+    → firstRefusal (tradeRows (b .«open_year») (b .lots) (b .shortages) t) ≡ Accepted → Tradable b t
+unfolding tradeRows
+tradable b t w e =
+    let s = sound-is b w in
+    let h = cleared (tradeRows (b .«open_year») (b .lots) (b .shortages) t) e in
     let from : t .from < makers = leb-false makers _ (search h) in
     let to : t .to < makers = leb-false makers _ (search h) in
-    let kind : t .set < sets = leb-false sets _ (search h) in
-    let s : not (sound b) ≡ false = search h in
+    let among : t .set < sets = leb-false sets _ (search h) in
     let v : not (live (b .«open_year») (t .vintage)) ≡ false = search h in
-    let p : Pays b (sellerLot t) (t .mg) = pays b (sellerLot t) s from kind (t .mg) v (search h) (search h) in
-    let i : In (buyerLot t) = live-in b (buyerLot t) s to kind v in
+    let p : Pays b (sellerLot t) (t .mg) = pays b (sellerLot t) (t .mg) s from among v (search h) (search h) in
+    let i : In (buyerLot t) = live-in _ (buyerLot t) (s .high) to among v in
     record {
       seller = p;
       buyer = i;
       apart = eqb-false _ _ (search h);
       clear = search h;
-      room = omega (arith, sound-lot b (p .sound) (sellerLot t) (p .lot), sound-lot b (p .sound) (buyerLot t) i);
+      room = omega (arith, sound-lot b s (sellerLot t) (p .lot), sound-lot b s (buyerLot t) i);
     }
 
 -- the code reads the buyer's lot before the seller's is lowered: they stand at two places
 pub swapped :
     (b : Book) (t : Trade) → Tradable b t
-    → set (set (b .lots) (place (sellerLot t)) (getD (b .lots) (place (sellerLot t)) 0 - t .mg)) (place (buyerLot t))
+    → store (store (b .lots) (place (sellerLot t)) (getD (b .lots) (place (sellerLot t)) 0 - t .mg)) (place (buyerLot t))
     (getD (b .lots) (place (buyerLot t)) 0 + t .mg)
     ≡ raise (lower (b .lots) (sellerLot t) (t .mg)) (buyerLot t) (t .mg)
-unfolding at lower raise
+unfolding figureAt lower raise
 swapped b t h =
     let ne : place (buyerLot t) ≢ place (sellerLot t) = λ e. h .apart (omega arith) in
     let left = getD (b .lots) (place (sellerLot t)) 0 - t .mg in
@@ -99,19 +102,21 @@ pub record Applicable (b : Book) (p : Application) : Type 0 where
   pub payer : Pays b (appliedLot p) (p .mg)
   pub covered : In (coveredShortage p)
   pub openYear : OpenShort (b .«open_year») (p .year)
-  pub enough : p .mg ≤ at (b .shortages) (coveredShortage p)
+  pub enough : p .mg ≤ figureAt (b .shortages) (coveredShortage p)
 
-pub applicable : (b : Book) (p : Application) → firstRefusal (applyTable b p) ≡ Accepted → Applicable b p
-unfolding applyTable
-applicable b p e =
-    let h = cleared (applyTable b p) e in
+pub applicable :
+    (b : Book) (p : Application) → sound b ≡ true
+    → firstRefusal (applyRows (b .«open_year») (b .lots) (b .shortages) p) ≡ Accepted → Applicable b p
+unfolding applyRows
+applicable b p w e =
+    let s = sound-is b w in
+    let h = cleared (applyRows (b .«open_year») (b .lots) (b .shortages) p) e in
     let maker : p .maker < makers = leb-false makers _ (search h) in
-    let kind : p .set < sets = leb-false sets _ (search h) in
-    let s : not (sound b) ≡ false = search h in
+    let among : p .set < sets = leb-false sets _ (search h) in
     let o : not (openShort (b .«open_year») (p .year)) ≡ false = search h in
     record {
-      payer = pays b (appliedLot p) s maker kind (p .mg) (search h) (search h) (search h);
-      covered = open-in b (coveredShortage p) s maker kind o;
+      payer = pays b (appliedLot p) (p .mg) s maker among (search h) (search h) (search h);
+      covered = open-in _ (coveredShortage p) (s .high) maker among o;
       openYear = open-is _ _ o;
       enough = ltb-false _ (p .mg) (search h);
     }
@@ -121,13 +126,15 @@ pub record Retirable (b : Book) (p : Retirement) : Type 0 where
   pub payer : Pays b (retiredLot p) (p .mg)
   pub clear : hasShortage (b .shortages) (p .maker) (p .set) ≡ false
 
-pub retirable : (b : Book) (p : Retirement) → firstRefusal (retireTable b p) ≡ Accepted → Retirable b p
-unfolding retireTable
-retirable b p e =
-    let h = cleared (retireTable b p) e in
+pub retirable :
+    (b : Book) (p : Retirement) → sound b ≡ true
+    → firstRefusal (retireRows (b .«open_year») (b .lots) (b .shortages) p) ≡ Accepted → Retirable b p
+unfolding retireRows
+retirable b p w e =
+    let h = cleared (retireRows (b .«open_year») (b .lots) (b .shortages) p) e in
     let maker : p .maker < makers = leb-false makers _ (search h) in
-    let kind : p .set < sets = leb-false sets _ (search h) in
+    let among : p .set < sets = leb-false sets _ (search h) in
     record {
-      payer = pays b (retiredLot p) (search h) maker kind (p .mg) (search h) (search h) (search h);
+      payer = pays b (retiredLot p) (p .mg) (sound-is b w) maker among (search h) (search h) (search h);
       clear = search h;
     }

@@ -13,15 +13,15 @@ use Rattle.figuring.specs.Years.{firstYear}
 use Rattle.figuring.proofs.SignedLaws.{heard}
 use Rattle.book.specs.Sizes.{makers, sets, families, years, lotsMost}
 use Rattle.book.specs.Below.{allBelow, sumBelow}
-use Rattle.book.specs.Ledger.{key, cell, at, partAt}
+use Rattle.book.specs.Ledger.{key, cell, figureAt, partAt}
 use Rattle.book.specs.Soundness.{partSound, familySound, figuresSound, yearSound, cellSound, makerSound, cellsSound}
 use Rattle.book.specs.Soundness.{lotOf, totalSound, setSound, totalsSound}
 use Rattle.book.specs.declared.ledger.Book.{Book}
 use Rattle.book.proofs.BelowLaws.{all-fails, first-fails, second-fails, sum-more, sum-rises, sum-done}
 
 -- where a year, counted from the first, stands
-pub at-year : (l : List ℕ) (m s i : ℕ) → at l (key m s (firstYear + i)) ≡ getD l ((m * sets + s) * years + i) 0
-unfolding at
+pub at-year : (l : List ℕ) (m s i : ℕ) → figureAt l (key m s (firstYear + i)) ≡ getD l ((m * sets + s) * years + i) 0
+unfolding figureAt
 at-year l m s i = ap (λ (n : ℕ). getD l ((m * sets + s) * years + n) 0) (omega arith)
 
 -- ---- what is said of the figures read

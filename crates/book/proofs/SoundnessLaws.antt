@@ -12,7 +12,7 @@ use Rattle.figuring.specs.Parts.{partMost}
 use Rattle.figuring.proofs.BoolLaws.{both}
 use Rattle.book.specs.Sizes.{makers, sets, cells, families, years, allClosed, shortageMost, lotsMost}
 use Rattle.book.specs.Below.{allBelow, sumBelow}
-use Rattle.book.specs.Ledger.{Key, key, In, at, cell, marked, partAt}
+use Rattle.book.specs.Ledger.{Key, key, In, figureAt, cell, marked, partAt}
 use Rattle.book.specs.Soundness.{sound, yearInRange, cellsSound, makerSound, cellSound, familySound, partSound, yearSound, figuresSound, totalsSound, setSound, totalSound, lotOf}
 use Rattle.book.specs.declared.ledger.Book.{Book}
 use Rattle.book.proofs.BelowLaws.{all-at, all-of, and-intro, sum-at}
@@ -23,8 +23,8 @@ pub record Sound (b : Book) : Type 0 where
   pub bounded : (c f : ℕ) → c < cells → f < families → natAbs (partAt (b .parts) c f) ≤ partMost
   pub unmarked :
       (c f : ℕ) → c < cells → f < families → marked (getD (b .marks) c 0) f ≡ false → partAt (b .parts) c f ≡ pos 0
-  pub shortage : (k : Key) → In k → at (b .shortages) k ≤ shortageMost
-  pub ahead : (k : Key) → In k → b .«open_year» ≤ k .year → (at (b .lots) k ≡ 0) × (at (b .shortages) k ≡ 0)
+  pub shortage : (k : Key) → In k → figureAt (b .shortages) k ≤ shortageMost
+  pub ahead : (k : Key) → In k → b .«open_year» ≤ k .year → (figureAt (b .lots) k ≡ 0) × (figureAt (b .shortages) k ≡ 0)
   pub total : (s i : ℕ) → s < sets → i < years → sumBelow makers (lotOf (b .lots) s i) ≤ lotsMost
 
 or-false : (a b : Bool) → (a || b) ≡ true → a ≡ false → b ≡ true
@@ -36,10 +36,10 @@ zero-is (pos n) e = ap pos e
 zero-is (negsuc n) e = absurd (omega arith)
 
 -- the year of a key, counted from the first
-year-of : (k : Key) → In k → key (k .maker) (k .kind) (firstYear + (k .year - firstYear)) ≡ k
+year-of : (k : Key) → In k → key (k .maker) (k .set) (firstYear + (k .year - firstYear)) ≡ k
 year-of k i =
     let e : firstYear + (k .year - firstYear) ≡ k .year = omega arith in
-    ap (λ (y : ℕ). key (k .maker) (k .kind) y) e
+    ap (λ (y : ℕ). key (k .maker) (k .set) y) e
 
 module _ (b : Book) (e : sound b ≡ true) where
   ranges : yearInRange (b .«open_year») ≡ true
@@ -67,12 +67,12 @@ module _ (b : Book) (e : sound b ≡ true) where
       let h = both _ _ (cell-holds (c / sets) (c % sets) m s) .0 in
       rw w at (all-at (familySound b (cell (c / sets) (c % sets))) families f hf h)
 
-  year-holds : (k : Key) → In k → figuresSound (b .«open_year») (k .year) (at (b .lots) k) (at (b .shortages) k) ≡ true
+  year-holds : (k : Key) → In k → figuresSound (b .«open_year») (k .year) (figureAt (b .lots) k) (figureAt (b .shortages) k) ≡ true
   unfolding cellSound yearSound
   year-holds k i =
-      let h = both (allBelow families (familySound b (cell (k .maker) (k .kind)))) (allBelow years (yearSound b (k .maker) (k .kind))) (cell-holds (k .maker) (k .kind) (i .maker) (i .kind)) .1 in
-      let g : yearSound b (k .maker) (k .kind) (k .year - firstYear) ≡ true = all-at (yearSound b (k .maker) (k .kind)) years (k .year - firstYear) (omega arith) h in
-      ap (λ (j : Key). figuresSound (b .«open_year») (j .year) (at (b .lots) j) (at (b .shortages) j)) (sym (year-of k i)) ∙ g
+      let h = both (allBelow families (familySound b (cell (k .maker) (k .set)))) (allBelow years (yearSound b (k .maker) (k .set))) (cell-holds (k .maker) (k .set) (i .maker) (i .set)) .1 in
+      let g : yearSound b (k .maker) (k .set) (k .year - firstYear) ≡ true = all-at (yearSound b (k .maker) (k .set)) years (k .year - firstYear) (omega arith) h in
+      ap (λ (j : Key). figuresSound (b .«open_year») (j .year) (figureAt (b .lots) j) (figureAt (b .shortages) j)) (sym (year-of k i)) ∙ g
 
   pub sound-is : Sound b
   unfolding yearInRange familySound partSound figuresSound totalsSound setSound totalSound
@@ -86,17 +86,17 @@ module _ (b : Book) (e : sound b ≡ true) where
             zero-is _ (eqb-true _ 0 (or-false (marked (getD (b .marks) c 0) f) _ (both (leb (natAbs (partAt (b .parts) c f)) partMost) _ (family-holds c f hc hf) .1) m));
         shortage = λ k i. leb-true _ shortageMost (both _ _ (year-holds k i) .0);
         ahead = λ k i h.
-            let w = both _ _ (or-false (ltb (k .year) (b .«open_year»)) _ (both (leb (at (b .shortages) k) shortageMost) _ (year-holds k i) .1) (le-ltb (k .year) (b .«open_year») h)) in
+            let w = both _ _ (or-false (ltb (k .year) (b .«open_year»)) _ (both (leb (figureAt (b .shortages) k) shortageMost) _ (year-holds k i) .1) (le-ltb (k .year) (b .«open_year») h)) in
             (eqb-true _ 0 (w .0), eqb-true _ 0 (w .1));
         total = λ s i hs hi. leb-true _ lotsMost (all-at (totalSound (b .lots) s) years i hi (all-at (setSound (b .lots)) sets s hs totals-hold));
       }
 
 -- a lot of a sound book
-pub sound-lot : (b : Book) → Sound b → (k : Key) → In k → at (b .lots) k ≤ lotsMost
+pub sound-lot : (b : Book) → Sound b → (k : Key) → In k → figureAt (b .lots) k ≤ lotsMost
 sound-lot b s k i =
-    let h = sum-at (lotOf (b .lots) (k .kind) (k .year - firstYear)) makers (k .maker) (i .maker) in
-    let t = s .total (k .kind) (k .year - firstYear) (i .kind) (omega arith) in
-    let e : at (b .lots) (key (k .maker) (k .kind) (firstYear + (k .year - firstYear))) ≡ at (b .lots) k = ap (at (b .lots)) (year-of k i) in
+    let h = sum-at (lotOf (b .lots) (k .set) (k .year - firstYear)) makers (k .maker) (i .maker) in
+    let t = s .total (k .set) (k .year - firstYear) (i .set) (omega arith) in
+    let e : figureAt (b .lots) (key (k .maker) (k .set) (firstYear + (k .year - firstYear))) ≡ figureAt (b .lots) k = ap (figureAt (b .lots)) (year-of k i) in
     omega arith
 
 or-intro : (a b : Bool) → (a ≡ false → b ≡ true) → (a || b) ≡ true
@@ -116,12 +116,12 @@ module _ (b : Book) (s : Sound b) where
   unfolding yearSound figuresSound
   year-sound m k i hm hk hi =
       let j : In (key m k (firstYear + i)) = omega arith in
-      and-intro (le-leb (at (b .shortages) (key m k (firstYear + i))) shortageMost (s .shortage (key m k (firstYear + i)) j))
+      and-intro (le-leb (figureAt (b .shortages) (key m k (firstYear + i))) shortageMost (s .shortage (key m k (firstYear + i)) j))
       (or-intro (ltb (firstYear + i) (b .«open_year»)) _
       (λ l.
       let a = s .ahead (key m k (firstYear + i)) j (ltb-false (firstYear + i) (b .«open_year») l) in
-      and-intro (eq-eqb (at (b .lots) (key m k (firstYear + i))) 0 (a .0))
-      (eq-eqb (at (b .shortages) (key m k (firstYear + i))) 0 (a .1))))
+      and-intro (eq-eqb (figureAt (b .lots) (key m k (firstYear + i))) 0 (a .0))
+      (eq-eqb (figureAt (b .shortages) (key m k (firstYear + i))) 0 (a .1))))
 
   pub is-sound : sound b ≡ true
   unfolding sound yearInRange cellsSound makerSound cellSound totalsSound setSound totalSound

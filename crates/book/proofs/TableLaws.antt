@@ -1,12 +1,14 @@
--- Laws of the ordered tables: what a verdict says of the rows, and what it makes of a call.
+-- Laws of the ordered rows: what a verdict says of them, what it makes of a call, and that the head comes before the call's own.
 use Prim.Native.Nat.{ℕ}
 use mathlib.Core.Bool.{Bool, true, false, not}
-use mathlib.Core.List.{List, [], _∷_}
-use mathlib.Core.Path.{_≡_, refl, sym, ap}
+use mathlib.Core.List.{List, [], _∷_, _++_}
+use mathlib.Core.Path.{_≡_, refl, sym, _∙_, ap, subst}
 use native.Mathlib.Omega.{arith}
+use borrow.Author.Tests.{not-false}
 use lib.ListN.{drop}
+use Rattle.book.specs.Soundness.{sound}
 use Rattle.book.specs.Refusals.{Row, orElse, firstRefusal}
-use Rattle.book.specs.Rules.{posted, table, done, outcome, refusedWith}
+use Rattle.book.specs.Rules.{posted, table, headRows, ownRows, done, outcome, refusedWith}
 use Rattle.book.specs.declared.ledger.Book.{Book}
 use Rattle.book.specs.declared.kinds.Call.{Call}
 use Rattle.book.specs.declared.answers.Posted.{Posted}
@@ -28,12 +30,12 @@ clear-row :
 clear-row true w xs k e = absurd (accepted≢refuse (sym e))
 clear-row false w xs k e = (refl, k e)
 
--- where a table accepts, none of its tests holds. Facts are then found by their type, not by their place in the table.
+-- where rows accept, none of their tests holds. Facts are then found by their type, not by their place.
 pub cleared : (xs : List Row) → firstRefusal xs ≡ Accepted → Clear xs
 cleared [] e = tt
 cleared (x ∷ xs) e = clear-row (x .test) (x .why) xs (cleared xs) e
 
--- the first n rows of a table have passed
+-- the first n rows have passed
 abbrev pub Past : ℕ → List Row → Type 0
 Past n xs = firstRefusal xs ≡ firstRefusal (drop n xs)
 
@@ -41,22 +43,69 @@ Past n xs = firstRefusal xs ≡ firstRefusal (drop n xs)
 pub not-of : {r x b : Bool} → r ≡ x → not r ≡ b → not x ≡ b
 not-of e h = rw (← e) h
 
--- what a call gives, by its verdict
-pub posted-refused : (b : Book) (c : Call) {r : Refusal} → firstRefusal (table b c) ≡ Refuse r → posted b c ≡ refusedWith b r
-unfolding posted
-posted-refused b c e = ap (λ (v : Verdict). outcome v b (done b c)) e
-
-pub posted-accepted : (b : Book) (c : Call) → firstRefusal (table b c) ≡ Accepted → posted b c ≡ done b c
-unfolding posted
-posted-accepted b c e = ap (λ (v : Verdict). outcome v b (done b c)) e
-
--- what holds of every refusal that leaves the book, and of what an accepted call gives, holds of what a call gives
-pub by-verdict :
-    (b : Book) (c : Call) (P : Posted → Type 0) → ((r : Refusal) → P (refusedWith b r))
-    → (firstRefusal (table b c) ≡ Accepted → P (done b c)) → P (posted b c)
-unfolding posted
-by-verdict b c P onRefusal onDone = go (firstRefusal (table b c)) refl
+-- ---- rows before others
+passes : (xs ys : List Row) → firstRefusal xs ≡ Accepted → firstRefusal (xs ++ ys) ≡ firstRefusal ys
+passes [] ys e = refl
+passes (x ∷ xs) ys e = go (x .test) e (passes xs ys)
   where
-    go : (v : Verdict) → firstRefusal (table b c) ≡ v → P (outcome v b (done b c))
-    go Accepted e = onDone e
-    go (Refuse r) e = onRefusal r
+    go :
+        (t : Bool) → orElse t (x .why) (firstRefusal xs) ≡ Accepted
+        → (firstRefusal xs ≡ Accepted → firstRefusal (xs ++ ys) ≡ firstRefusal ys)
+        → orElse t (x .why) (firstRefusal (xs ++ ys)) ≡ firstRefusal ys
+    go true h ih = absurd (accepted≢refuse (sym h))
+    go false h ih = ih h
+
+stops : (xs ys : List Row) (r : Refusal) → firstRefusal xs ≡ Refuse r → firstRefusal (xs ++ ys) ≡ Refuse r
+stops [] ys r e = absurd (accepted≢refuse e)
+stops (x ∷ xs) ys r e = go (x .test) e (stops xs ys r)
+  where
+    go :
+        (t : Bool) → orElse t (x .why) (firstRefusal xs) ≡ Refuse r
+        → (firstRefusal xs ≡ Refuse r → firstRefusal (xs ++ ys) ≡ Refuse r)
+        → orElse t (x .why) (firstRefusal (xs ++ ys)) ≡ Refuse r
+    go true h ih = h
+    go false h ih = ih h
+
+-- ---- the head, and then the call's own rows
+module _ (b : Book) where
+  pub head-sound : firstRefusal (headRows b) ≡ Accepted → sound b ≡ true
+  unfolding headRows
+  head-sound e = not-false (sound b) (cleared (headRows b) e .0)
+
+  pub sound-head : sound b ≡ true → firstRefusal (headRows b) ≡ Accepted
+  unfolding headRows
+  sound-head s = rw s
+
+module _ (b : Book) (c : Call) where
+  -- a head that refuses decides
+  pub head-refuses : {r : Refusal} → firstRefusal (headRows b) ≡ Refuse r → posted b c ≡ refusedWith b r
+  unfolding posted table
+  head-refuses e = ap (λ (v : Verdict). outcome v b (done b c)) (stops (headRows b) (ownRows b c) _ e)
+
+  -- one that accepts has found the book sound, and leaves the call to its own rows
+  pub own-decide : {v : Verdict} → sound b ≡ true → firstRefusal (ownRows b c) ≡ v → posted b c ≡ outcome v b (done b c)
+  unfolding posted table
+  own-decide s e =
+      ap (λ (v : Verdict). outcome v b (done b c)) (passes (headRows b) (ownRows b c) (sound-head b s) ∙ e)
+
+  -- what holds of the refusals of either, and of what an accepted call gives, holds of what a call gives
+  pub by-rows :
+      (P : Posted → Type 0)
+      → ((r : Refusal) → firstRefusal (headRows b) ≡ Refuse r → P (refusedWith b r))
+      → ((r : Refusal) → firstRefusal (ownRows b c) ≡ Refuse r → P (refusedWith b r))
+      → (sound b ≡ true → firstRefusal (ownRows b c) ≡ Accepted → P (done b c)) → P (posted b c)
+  by-rows P onHead onOwn onDone = head (firstRefusal (headRows b)) refl
+    where
+      own : (v : Verdict) → sound b ≡ true → firstRefusal (ownRows b c) ≡ v → P (posted b c)
+      own Accepted s e = subst P (sym (own-decide s e)) (onDone s e)
+      own (Refuse r) s e = subst P (sym (own-decide s e)) (onOwn r e)
+
+      head : (v : Verdict) → firstRefusal (headRows b) ≡ v → P (posted b c)
+      head Accepted e = own (firstRefusal (ownRows b c)) (head-sound b e) refl
+      head (Refuse r) e = subst P (sym (head-refuses e)) (onHead r e)
+
+  -- the same where the refusals need not be told apart
+  pub by-verdict :
+      (P : Posted → Type 0) → ((r : Refusal) → P (refusedWith b r))
+      → (sound b ≡ true → firstRefusal (ownRows b c) ≡ Accepted → P (done b c)) → P (posted b c)
+  by-verdict P onRefusal onDone = by-rows P (λ r e. onRefusal r) (λ r e. onRefusal r) onDone

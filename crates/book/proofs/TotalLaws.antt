@@ -11,7 +11,7 @@ use lib.ListN.{length}
 use Rattle.figuring.specs.Years.{firstYear}
 use Rattle.book.specs.Sizes.{makers, sets, years, places}
 use Rattle.book.specs.Below.{sumBelow}
-use Rattle.book.specs.Ledger.{Key, key, In, at, lower, raise}
+use Rattle.book.specs.Ledger.{Key, key, In, figureAt, lower, raise}
 use Rattle.book.specs.Accounts.{sameKey, only}
 use Rattle.book.proofs.LedgerLaws.{at-lower, at-raise, other-year}
 
@@ -48,7 +48,7 @@ sum-change f g (suc n) j h e = go (ℕ-discrete n j) (λ l. sum-change f g n j l
 -- ---- the total of a set and vintage
 -- the lots of all makers, i years after the first
 abbrev pub totalOf : List ℕ → ℕ → ℕ → ℕ
-totalOf l s i = sumBelow makers (λ m. at l (key m s (firstYear + i)))
+totalOf l s i = sumBelow makers (λ m. figureAt l (key m s (firstYear + i)))
 
 -- what is moved at a lot of another maker, and at one of another year
 other-maker : (k : Key) (m s y n : ℕ) → m ≢ k .maker → only (sameKey k (key m s y)) n ≡ 0
@@ -61,10 +61,10 @@ other-vintage k j n h = rw (other-year k j h)
 
 module _ (l : List ℕ) (k : Key) (n s i : ℕ) (size : length l ≡ places) (ik : In k) (hs : s < sets) (hi : i < years) where
   pub total-lower :
-      n ≤ at l k → totalOf (lower l k n) s i + only (sameKey k (key (k .maker) s (firstYear + i))) n ≡ totalOf l s i
+      n ≤ figureAt l k → totalOf (lower l k n) s i + only (sameKey k (key (k .maker) s (firstYear + i))) n ≡ totalOf l s i
   total-lower b =
       let y = firstYear + i in
-      let t = sum-change (λ m. at l (key m s y)) (λ m. at (lower l k n) (key m s y)) makers (k .maker) (ik .maker)
+      let t = sum-change (λ m. figureAt l (key m s y)) (λ m. figureAt (lower l k n) (key m s y)) makers (k .maker) (ik .maker)
       (λ m hm h. omega (arith, at-lower l k (key m s y) n size ik (omega arith) b, other-maker k m s y n h)) in
       omega (arith, at-lower l k (key (k .maker) s y) n size ik (omega arith) b)
 
@@ -72,7 +72,7 @@ module _ (l : List ℕ) (k : Key) (n s i : ℕ) (size : length l ≡ places) (ik
       totalOf (raise l k n) s i ≡ totalOf l s i + only (sameKey k (key (k .maker) s (firstYear + i))) n
   total-raise =
       let y = firstYear + i in
-      let t = sum-change (λ m. at l (key m s y)) (λ m. at (raise l k n) (key m s y)) makers (k .maker) (ik .maker)
+      let t = sum-change (λ m. figureAt l (key m s y)) (λ m. figureAt (raise l k n) (key m s y)) makers (k .maker) (ik .maker)
       (λ m hm h. omega (arith, at-raise l k (key m s y) n size ik (omega arith), other-maker k m s y n h)) in
       omega (arith, at-raise l k (key (k .maker) s y) n size ik (omega arith))
 

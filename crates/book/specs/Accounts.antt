@@ -15,6 +15,22 @@ pub record Entry : Type 0 where
   pub call : Call
   pub accepted : Bool
 
+-- what trades, applications and retirements add to, in Mg
+pub data Column : Type 0 where
+  bought : Column
+  sold : Column
+  applied : Column
+  retired : Column
+  covered : Column
+
+-- to tell two columns apart by a test
+abbrev pub columnNumber : Column → ℕ
+columnNumber bought = 0
+columnNumber sold = 1
+columnNumber applied = 2
+columnNumber retired = 3
+columnNumber covered = 4
+
 -- "For each maker, set and year 2014 to 2037 there are a sum in part units and, in Mg, earned, shortfall, bought, sold,
 -- applied, retired and covered. All are exact whole numbers without bound and start at zero." Kept here for any key: Demand3
 -- speaks of those of the book.
@@ -22,27 +38,13 @@ pub record Accounts : Type 0 where
   pub sum : Key → ℤ
   pub earned : Key → ℕ
   pub shortfall : Key → ℕ
-  pub bought : Key → ℕ
-  pub sold : Key → ℕ
-  pub applied : Key → ℕ
-  pub retired : Key → ℕ
-  pub covered : Key → ℕ
+  pub mg : Column → Key → ℕ
 
 abbrev pub zeroAccounts : Accounts
-zeroAccounts =
-    record {
-      sum = λ k. pos 0;
-      earned = λ k. 0;
-      shortfall = λ k. 0;
-      bought = λ k. 0;
-      sold = λ k. 0;
-      applied = λ k. 0;
-      retired = λ k. 0;
-      covered = λ k. 0;
-    }
+zeroAccounts = record { sum = λ k. pos 0; earned = λ k. 0; shortfall = λ k. 0; mg = λ c k. 0 }
 
 unfoldable pub sameKey : Key → Key → Bool
-sameKey k j = eqb (k .maker) (j .maker) && (eqb (k .kind) (j .kind) && eqb (k .year) (j .year))
+sameKey k j = eqb (k .maker) (j .maker) && (eqb (k .set) (j .set) && eqb (k .year) (j .year))
 
 -- an amount under a condition, else nothing
 unfoldable pub only : Bool → ℕ → ℕ
@@ -53,10 +55,11 @@ unfoldable pub onlyℤ : Bool → ℤ → ℤ
 onlyℤ true n = n
 onlyℤ false n = pos 0
 
--- n more at k, and the rest as before
-abbrev pub plus : Key → ℕ → (Key → ℕ) → Key → ℕ
-plus k n f j = f j + only (sameKey k j) n
+-- n more in column c at k, and the rest as before
+abbrev pub add : Column → Key → ℕ → (Column → Key → ℕ) → Column → Key → ℕ
+add c k n g d j = g d j + only (eqb (columnNumber c) (columnNumber d) && sameKey k j) n
 
+-- the same of the sum in part units
 abbrev pub plusℤ : Key → ℤ → (Key → ℤ) → Key → ℤ
 plusℤ k n f j = f j +ℤ onlyℤ (sameKey k j) n
 
@@ -68,6 +71,10 @@ pick false a b = b
 abbrev pub inYear : ℕ → (Key → ℕ) → (Key → ℕ) → Key → ℕ
 inYear y v f j = pick (eqb (j .year) y) (v j) (f j)
 
+-- the columns as g says, and the rest as before
+abbrev pub withMg : Accounts → (Column → Key → ℕ) → Accounts
+withMg a g = record { sum = a .sum; earned = a .earned; shortfall = a .shortfall; mg = g }
+
 abbrev pub move : Accounts → Call → Accounts
 -- "its part, figured from its own arguments, is added to the sum of its maker, set and year"
 move a (Call.File f) =
@@ -75,11 +82,7 @@ move a (Call.File f) =
       sum = plusℤ (key (f .maker) (f .set) (f .year)) (partFor f) (a .sum);
       earned = a .earned;
       shortfall = a .shortfall;
-      bought = a .bought;
-      sold = a .sold;
-      applied = a .applied;
-      retired = a .retired;
-      covered = a .covered;
+      mg = a .mg;
     }
 -- "for every maker and set the sum of that year is rounded as a close rounds. Above zero it becomes earned; below zero,
 -- without its sign, shortfall"
@@ -88,48 +91,14 @@ move a (Call.Close y) =
       sum = a .sum;
       earned = inYear y (λ k. earnedOf (netOf (a .sum k))) (a .earned);
       shortfall = inYear y (λ k. shortfallOf (netOf (a .sum k))) (a .shortfall);
-      bought = a .bought;
-      sold = a .sold;
-      applied = a .applied;
-      retired = a .retired;
-      covered = a .covered;
+      mg = a .mg;
     }
 -- "its Mg are added to sold of the from maker and to bought of the to maker, in its set and vintage"
-move a (Call.Trade t) =
-    record {
-      sum = a .sum;
-      earned = a .earned;
-      shortfall = a .shortfall;
-      bought = plus (buyerLot t) (t .mg) (a .bought);
-      sold = plus (sellerLot t) (t .mg) (a .sold);
-      applied = a .applied;
-      retired = a .retired;
-      covered = a .covered;
-    }
+move a (Call.Trade t) = withMg a (add bought (buyerLot t) (t .mg) (add sold (sellerLot t) (t .mg) (a .mg)))
 -- "its Mg are added to applied of its maker, set and vintage and to covered of its maker, set and year"
-move a (Call.Apply p) =
-    record {
-      sum = a .sum;
-      earned = a .earned;
-      shortfall = a .shortfall;
-      bought = a .bought;
-      sold = a .sold;
-      applied = plus (appliedLot p) (p .mg) (a .applied);
-      retired = a .retired;
-      covered = plus (coveredShortage p) (p .mg) (a .covered);
-    }
+move a (Call.Apply p) = withMg a (add covered (coveredShortage p) (p .mg) (add applied (appliedLot p) (p .mg) (a .mg)))
 -- "its Mg are added to retired of its maker, set and vintage"
-move a (Call.Retire p) =
-    record {
-      sum = a .sum;
-      earned = a .earned;
-      shortfall = a .shortfall;
-      bought = a .bought;
-      sold = a .sold;
-      applied = a .applied;
-      retired = plus (retiredLot p) (p .mg) (a .retired);
-      covered = a .covered;
-    }
+move a (Call.Retire p) = withMg a (add retired (retiredLot p) (p .mg) (a .mg))
 
 -- "Refused: nothing moves."
 abbrev pub whenAccepted : Bool → Accounts → Accounts → Accounts

@@ -6,7 +6,7 @@ use lib.ListN.{length}
 use Rattle.book.specs.Sizes.{cells, places, allParts}
 use Rattle.book.specs.Soundness.{sound}
 use Rattle.book.specs.Postings.{freshBook}
-use Rattle.book.specs.Ledger.{Key, In, at}
+use Rattle.book.specs.Ledger.{Key, In, figureAt}
 use Rattle.book.specs.Life.{expired, overdue}
 use Rattle.book.specs.Refusals.{refusalIn}
 use Rattle.book.specs.Rules.{posted}
@@ -45,7 +45,7 @@ StrikeOut b cs = bookAfter b (acceptedOnly b cs) ≡ bookAfter b cs
 
 -- A lot that is expired, whatever calls follow: "the figure stays and nothing moves it". An overdue shortage "stays likewise".
 pub record Stays (b : Book) (cs : List Call) (k : Key) : Type 0 where
-  pub lot : expired (b .«open_year») (k .year) ≡ true → at (bookAfter b cs .lots) k ≡ at (b .lots) k
+  pub lot : expired (b .«open_year») (k .year) ≡ true → figureAt (bookAfter b cs .lots) k ≡ figureAt (b .lots) k
   pub still-expired : expired (b .«open_year») (k .year) ≡ true → expired (bookAfter b cs .«open_year») (k .year) ≡ true
-  pub shortage : overdue (b .«open_year») (k .year) ≡ true → at (bookAfter b cs .shortages) k ≡ at (b .shortages) k
+  pub shortage : overdue (b .«open_year») (k .year) ≡ true → figureAt (bookAfter b cs .shortages) k ≡ figureAt (b .shortages) k
   pub still-overdue : overdue (b .«open_year») (k .year) ≡ true → overdue (bookAfter b cs .«open_year») (k .year) ≡ true

@@ -5,10 +5,11 @@ use Prim.Native.Nat.{_+_, _≤_}
 use mathlib.Core.Bool.{Bool, true, false}
 use mathlib.Core.List.{List, [], _∷_, _++_}
 use mathlib.Core.Path.{_≡_}
-use Rattle.book.specs.Ledger.{Key, In, at}
+use Rattle.book.specs.Ledger.{Key, In, figureAt}
 use Rattle.book.specs.Postings.{freshBook, coveredShortage}
 use Rattle.book.specs.Rules.{posted}
 use Rattle.book.specs.Accounts.{Accounts, Entry, accountsOf}
+use Rattle.book.specs.Accounts.{bought, sold, applied, retired, covered}
 use Rattle.book.specs.declared.ledger.Book.{Book}
 use Rattle.book.specs.declared.kinds.Call.{Call}
 use Rattle.book.specs.declared.kinds.Application.{Application}
@@ -38,13 +39,13 @@ bookAfter b (c ∷ cs) = bookAfter (posted b c .book) cs
 -- a lot is earned + bought - sold - applied - retired, and a shortage is shortfall - covered: stated as sums, so that no
 -- difference below zero can hide
 pub record Reconciled (b : Book) (a : Accounts) (k : Key) : Type 0 where
-  pub lot : at (b .lots) k + a .sold k + a .applied k + a .retired k ≡ a .earned k + a .bought k
-  pub shortage : at (b .shortages) k + a .covered k ≡ a .shortfall k
+  pub lot : figureAt (b .lots) k + a .mg sold k + a .mg applied k + a .mg retired k ≡ a .earned k + a .mg bought k
+  pub shortage : figureAt (b .shortages) k + a .mg covered k ≡ a .shortfall k
 
 -- "the shortage that these accounts give its maker, set and year just before it is at least its Mg; its year is at most its
 -- vintage + 5, and its vintage at most its year + 3"
 pub record Covers (a : Accounts) (p : Application) : Type 0 where
-  pub enough : a .covered (coveredShortage p) + p .mg ≤ a .shortfall (coveredShortage p)
+  pub enough : a .mg covered (coveredShortage p) + p .mg ≤ a .shortfall (coveredShortage p)
   pub notTooLate : p .year ≤ p .vintage + 5
   pub notTooEarly : p .vintage ≤ p .year + 3
 

@@ -1,35 +1,35 @@
--- Document 01, "The book": what stands where. Lots and shortages are read by `at` and moved by `lower` and `raise`, at a key;
--- a close writes them by `netted`, and a filing its part by `stored` (Postings).
+-- Document 01, "The book": what stands where. Lots and shortages are read by `figureAt` and moved by `lower` and `raise`, at a
+-- key; a close writes them by `netted`, and a filing its part by `stored` (Postings).
 use Prim.Native.Nat.{ℕ, _+_, _-_, _*_, _/_, _%_, _^_, _≤_, _<_}
 use mathlib.Core.Bool.{Bool}
 use mathlib.Core.List.{List}
 use lib.Bits.{bitOr}
 use lib.Count.{ones}
 use lib.Dec.{eqb}
-use lib.ListN.{getD, set}
+use lib.ListN.{getD, set as store}
 use lib.IntN.{ℤ, pos}
 use Rattle.figuring.specs.Years.{firstYear, lastYear}
 use Rattle.book.specs.Sizes.{makers, sets, families, years}
 use Rattle.book.specs.Below.{sumBelowℤ}
 use Rattle.book.specs.declared.ledger.Book.{Book}
 
--- the book that an open year and four arrays make: contracts speak of it where a book's arrays are lent
+-- the book that an open year and four arrays make: soundness speaks of it where a book's arrays are lent
 abbrev pub bookOf : ℕ → List ℕ → List ℤ → List ℕ → List ℕ → Book
 bookOf y m p l s = record { «open_year» = y; marks = m; parts = p; lots = l; shortages = s }
 
--- a maker, a set (the field `kind`, since `set` is the store into a list) and a year
+-- a maker, a set and a year
 pub record Key : Type 0 where
   pub maker : ℕ
-  pub kind : ℕ
+  pub set : ℕ
   pub year : ℕ
 
 abbrev pub key : ℕ → ℕ → ℕ → Key
-key m s y = record { maker = m; kind = s; year = y }
+key m s y = record { maker = m; set = s; year = y }
 
 -- a maker, a set and a year of the book
 pub record In (k : Key) : Type 0 where
   pub maker : k .maker < makers
-  pub kind : k .kind < sets
+  pub set : k .set < sets
   pub from : firstYear ≤ k .year
   pub upto : k .year ≤ lastYear
 
@@ -37,18 +37,20 @@ pub record In (k : Key) : Type 0 where
 abbrev pub cell : ℕ → ℕ → ℕ
 cell m s = m * sets + s
 
--- where a key's lot and shortage stand
+-- Where a key's lot and shortage stand, of a key of the book (`In`). A year outside 2014 to 2037 has no place of its own: `place`
+-- gives it that of 2014, or of another cell. No call reads a figure there: the rows that do (14, 15, 16) come after those that
+-- refuse such a year (10, 14), and a maker or a set that the book has not (3, 4).
 abbrev pub place : Key → ℕ
-place k = (k .maker * sets + k .kind) * years + (k .year - firstYear)
+place k = (k .maker * sets + k .set) * years + (k .year - firstYear)
 
-unfoldable pub at : List ℕ → Key → ℕ
-at l k = getD l (place k) 0
+unfoldable pub figureAt : List ℕ → Key → ℕ
+figureAt l k = getD l (place k) 0
 
 unfoldable pub lower : List ℕ → Key → ℕ → List ℕ
-lower l k n = set l (place k) (at l k - n)
+lower l k n = store l (place k) (figureAt l k - n)
 
 unfoldable pub raise : List ℕ → Key → ℕ → List ℕ
-raise l k n = set l (place k) (at l k + n)
+raise l k n = store l (place k) (figureAt l k + n)
 
 -- "a 64-bit filing mark, one bit a family"
 unfoldable pub marked : ℕ → ℕ → Bool

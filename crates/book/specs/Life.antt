@@ -6,7 +6,7 @@ use lib.Dec.{ltb, leb}
 use Rattle.figuring.specs.Years.{firstYear}
 use Rattle.book.specs.Sizes.{years}
 use Rattle.book.specs.Below.{anyBelow}
-use Rattle.book.specs.Ledger.{key, at}
+use Rattle.book.specs.Ledger.{key, figureAt}
 
 -- a year that is closed: "2014 to Y - 1"
 unfoldable pub closedYear : ℕ → ℕ → Bool
@@ -28,7 +28,7 @@ overdue Y y = closedYear Y y && ltb (y + 4) Y
 
 -- a shortage above 0 in any year; in a sound book that year is closed, so the shortage is open or overdue
 abbrev pub shortIn : List ℕ → ℕ → ℕ → ℕ → Bool
-shortIn shortages m s i = ltb 0 (at shortages (key m s (firstYear + i)))
+shortIn shortages m s i = ltb 0 (figureAt shortages (key m s (firstYear + i)))
 
 unfoldable pub hasShortage : List ℕ → ℕ → ℕ → Bool
 hasShortage shortages m s = anyBelow years (shortIn shortages m s)

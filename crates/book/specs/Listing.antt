@@ -5,7 +5,7 @@ use mathlib.Core.List.{List}
 use lib.Dec.{ltb, leb}
 use Rattle.figuring.specs.Years.{firstYear, lastYear}
 use Rattle.book.specs.Sizes.{makers, sets}
-use Rattle.book.specs.Ledger.{key, at}
+use Rattle.book.specs.Ledger.{key, figureAt}
 use Rattle.book.specs.Life.{live, expired, openShort, overdue}
 use Rattle.book.specs.declared.listing.LotEntry.{LotEntry}
 use Rattle.book.specs.declared.listing.ShortageEntry.{ShortageEntry}
@@ -21,7 +21,7 @@ lotIf false a b = b
 -- what is shown of a lot: o is the open year, l the book's lots
 unfoldable pub lotEntry : ℕ → List ℕ → ℕ → ℕ → ℕ → LotEntry
 lotEntry o l m s v =
-    let mg = at l (key m s v) in
+    let mg = figureAt l (key m s v) in
     lotIf (isCellYear m s v && ltb 0 mg)
     (lotIf (live o v) (LotEntry.Live (record { 0 = mg }))
     (lotIf (expired o v) (LotEntry.Expired (record { 0 = mg })) LotEntry.NoLot))
@@ -34,7 +34,7 @@ shortageIf false a b = b
 -- what is shown of a shortage: o is the open year, l the book's shortages
 unfoldable pub shortageEntry : ℕ → List ℕ → ℕ → ℕ → ℕ → ShortageEntry
 shortageEntry o l m s y =
-    let mg = at l (key m s y) in
+    let mg = figureAt l (key m s y) in
     shortageIf (isCellYear m s y && ltb 0 mg)
     (shortageIf (openShort o y) (ShortageEntry.Open (record { 0 = mg }))
     (shortageIf (overdue o y) (ShortageEntry.Overdue (record { 0 = mg })) ShortageEntry.NoShortage))

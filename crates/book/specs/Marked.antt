@@ -3,13 +3,11 @@ use Prim.Native.Nat.{ℕ}
 use mathlib.Core.Path.{_≡_}
 use mathlib.Core.Bool.{true}
 use lib.IntN.{pos}
-use lib.ListN.{replicate}
-use Rattle.figuring.specs.Marked as Figuring
-use Rattle.book.specs.Sizes.{cells, places, allParts}
+use Rattle.figuring.specs.Marked.{FiguringMarked}
 use Rattle.book.specs.Life.{live, expired, openShort, overdue}
 use Rattle.book.specs.Refusals.{refusalIn}
-use Rattle.book.specs.Ledger.{key, at}
-use Rattle.book.specs.Postings.{freshBook, stored}
+use Rattle.book.specs.Ledger.{key, figureAt}
+use Rattle.book.specs.Postings.{emptyIn, freshBook, stored}
 use Rattle.book.specs.Rules.{posted}
 use Rattle.book.specs.Demand3.{isAccepted}
 use Rattle.book.specs.declared.ledger.Book.{Book}
@@ -32,14 +30,7 @@ filingWith family fcl =
 
 -- a book with nothing in it whose open year is 2037
 unfoldable pub lastOpen : Book
-lastOpen =
-    record {
-      «open_year» = 2037;
-      marks = replicate cells 0;
-      parts = replicate allParts (pos 0);
-      lots = replicate places 0;
-      shortages = replicate places 0;
-    }
+lastOpen = emptyIn 2037
 
 -- a fresh book, then with two parts of 4,000,000 stored in cell 0
 unfoldable pub onePart : Book
@@ -50,11 +41,11 @@ twoParts = stored onePart 0 1 (pos 4000000) .book
 
 pub record MarkedFigures : Type 0 where
   -- P1 to P7, and of P10 the limits
-  pub figuring : Figuring.MarkedFigures
+  pub figuring : FiguringMarked
   -- P7 once more, of a close: two parts of 4,000,000 in a cell earn 1 Mg
   pub P7 :
       (isAccepted (posted twoParts (Call.Close 2014) .answer) ≡ true)
-      × (at (posted twoParts (Call.Close 2014) .book .lots) (key 0 0 2014) ≡ 1)
+      × (figureAt (posted twoParts (Call.Close 2014) .book .lots) (key 0 0 2014) ≡ 1)
   -- P8 vintage 2014 live in open year 2020, expired in 2021
   pub P8 : (live 2020 2014 ≡ true) × (expired 2021 2014 ≡ true)
   -- P9 shortage 2014 open in 2018, overdue in 2019

@@ -2,7 +2,7 @@
 use Prim.Native.Nat.{ℕ, zero, suc, _+_, _-_, _*_}
 use mathlib.Core.List.{List}
 use lib.Dec.{ltb}
-use lib.ListN.{getD, set, replicate}
+use lib.ListN.{getD, set as store, replicate}
 use lib.IntN.{ℤ, pos}
 use Rattle.figuring.specs.Years.{firstYear}
 use Rattle.figuring.specs.Standards.{standardFor, gramsOf}
@@ -10,7 +10,7 @@ use Rattle.figuring.specs.Parts.{partOf}
 use Rattle.figuring.specs.Netting.{netOf, earnedOf, shortfallOf}
 use Rattle.book.specs.Sizes.{cells, families, years, places, allParts}
 use Rattle.book.specs.Below.{countBelow}
-use Rattle.book.specs.Ledger.{Key, key, cell, at, lower, raise, withMark, filedIn, cellSum}
+use Rattle.book.specs.Ledger.{Key, key, cell, figureAt, lower, raise, withMark, filedIn, cellSum}
 use Rattle.book.specs.declared.ledger.Book.{Book}
 use Rattle.book.specs.declared.kinds.Filing.{Filing}
 use Rattle.book.specs.declared.kinds.Trade.{Trade}
@@ -19,16 +19,20 @@ use Rattle.book.specs.declared.kinds.Retirement.{Retirement}
 use Rattle.book.specs.declared.answers.Answer.{Answer}
 use Rattle.book.specs.declared.answers.Posted.{Posted}
 
--- "Fresh: year 2014, all else zero."
-unfoldable pub freshBook : Book
-freshBook =
+-- a book with nothing in it
+abbrev pub emptyIn : ℕ → Book
+emptyIn openYear =
     record {
-      «open_year» = firstYear;
+      «open_year» = openYear;
       marks = replicate cells 0;
       parts = replicate allParts (pos 0);
       lots = replicate places 0;
       shortages = replicate places 0;
     }
+
+-- "Fresh: year 2014, all else zero."
+unfoldable pub freshBook : Book
+freshBook = emptyIn firstYear
 
 -- ---- File: "sets the mark and the part. Returns the part and how many families of that cell are now filed."
 
@@ -49,15 +53,15 @@ stored b c family z =
       book =
           record {
             «open_year» = b .«open_year»;
-            marks = set (b .marks) c mark;
-            parts = set (b .parts) (c * families + family) z;
+            marks = store (b .marks) c mark;
+            parts = store (b .parts) (c * families + family) z;
             lots = b .lots;
             shortages = b .shortages;
           };
     }
 
-abbrev pub filed : Book → Filing → Posted
-filed b f = stored b (filingCell f) (f .family) (partFor f)
+abbrev pub filingDone : Book → Filing → Posted
+filingDone b f = stored b (filingCell f) (f .family) (partFor f)
 
 -- ---- Close: "for each cell the parts are added exactly, then rounded once"; what comes out becomes the lot or the
 -- shortage of that year, both written, 0 where there is nothing
@@ -71,11 +75,11 @@ shortBy b c = shortfallOf (netOf (cellSum (b .parts) c))
 -- the figures v of the cells below n, written in the year that is i years after the first
 unfoldable pub netted : ℕ → (ℕ → ℕ) → ℕ → List ℕ → List ℕ
 netted i v zero l = l
-netted i v (suc n) l = set (netted i v n l) (n * years + i) (v n)
+netted i v (suc n) l = store (netted i v n l) (n * years + i) (v n)
 
 -- "Marks and parts are cleared; the open year rises by one. Returns the number of cells that closed short."
-unfoldable pub closed : Book → Posted
-closed b =
+unfoldable pub closeDone : Book → Posted
+closeDone b =
     record {
       answer = Answer.Closed (countBelow cells (λ c. ltb 0 (shortBy b c)));
       book =
@@ -101,7 +105,7 @@ moved b l s =
     }
 
 abbrev pub leaving : Book → Key → ℕ → Answer
-leaving b k n = Answer.Left (record { 0 = at (b .lots) k - n })
+leaving b k n = Answer.Left (record { 0 = figureAt (b .lots) k - n })
 
 -- "Trade (from, to, set, vintage, Mg): moves between two lots."
 abbrev pub sellerLot : Trade → Key
@@ -110,8 +114,8 @@ sellerLot t = key (t .from) (t .set) (t .vintage)
 abbrev pub buyerLot : Trade → Key
 buyerLot t = key (t .to) (t .set) (t .vintage)
 
-unfoldable pub traded : Book → Trade → Posted
-traded b t =
+unfoldable pub tradeDone : Book → Trade → Posted
+tradeDone b t =
     record {
       answer = leaving b (sellerLot t) (t .mg);
       book = moved b (raise (lower (b .lots) (sellerLot t) (t .mg)) (buyerLot t) (t .mg)) (b .shortages);
@@ -124,8 +128,8 @@ appliedLot p = key (p .maker) (p .set) (p .vintage)
 abbrev pub coveredShortage : Application → Key
 coveredShortage p = key (p .maker) (p .set) (p .year)
 
-unfoldable pub applied : Book → Application → Posted
-applied b p =
+unfoldable pub applicationDone : Book → Application → Posted
+applicationDone b p =
     record {
       answer = leaving b (appliedLot p) (p .mg);
       book = moved b (lower (b .lots) (appliedLot p) (p .mg)) (lower (b .shortages) (coveredShortage p) (p .mg));
@@ -135,8 +139,8 @@ applied b p =
 abbrev pub retiredLot : Retirement → Key
 retiredLot p = key (p .maker) (p .set) (p .vintage)
 
-unfoldable pub retired : Book → Retirement → Posted
-retired b p =
+unfoldable pub retirementDone : Book → Retirement → Posted
+retirementDone b p =
     record {
       answer = leaving b (retiredLot p) (p .mg);
       book = moved b (lower (b .lots) (retiredLot p) (p .mg)) (b .shortages);

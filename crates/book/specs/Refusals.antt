@@ -5,14 +5,17 @@ use mathlib.Core.List.{List, [], _∷_}
 use lib.IntN.{ℤ, pos}
 use lib.ListN.{getD}
 use Rattle.book.specs.declared.answers.Refusal.{Refusal}
-use Rattle.book.specs.declared.answers.Refusal.the-variants.{NotAForm, UnsoundBook, UnknownMaker, UnknownSet, YearNotOpen, NoStandard, UnknownFamily, OutOfLimits, AlreadyFiled, VintageNotLive, ZeroAmount, SameMaker, HasShortage, NoOpenShortage, AboveLot, AboveShortage}
+use Rattle.book.specs.declared.answers.Refusal.the-variants.{NotAForm, UnsoundBook, UnknownMaker, UnknownSet}
+use Rattle.book.specs.declared.answers.Refusal.the-variants.{YearNotOpen, NoStandard, UnknownFamily, OutOfLimits}
+use Rattle.book.specs.declared.answers.Refusal.the-variants.{AlreadyFiled, VintageNotLive, ZeroAmount, SameMaker}
+use Rattle.book.specs.declared.answers.Refusal.the-variants.{HasShortage, NoOpenShortage, AboveLot, AboveShortage}
 use Rattle.book.specs.declared.answers.Answer.{Answer}
 use Rattle.book.specs.declared.answers.Answer.the-variants.{Refused, Filed, Closed, Left}
 use Rattle.book.specs.declared.answers.Verdict.{Verdict}
 use Rattle.book.specs.declared.answers.Verdict.the-variants.{Accepted, Refuse}
 
 -- the paper's number of each refusal
-unfoldable pub numberOf : Refusal → ℕ
+abbrev pub numberOf : Refusal → ℕ
 -- The line isn't one of the forms (text only).
 numberOf NotAForm = 1
 -- The book isn't sound.

@@ -9,7 +9,7 @@ use Rattle.figuring.specs.Years.{firstYear}
 use Rattle.figuring.specs.Parts.{partMost}
 use Rattle.book.specs.Sizes.{makers, sets, families, years, allClosed, shortageMost, lotsMost}
 use Rattle.book.specs.Below.{allBelow, sumBelow}
-use Rattle.book.specs.Ledger.{key, cell, at, marked, partAt}
+use Rattle.book.specs.Ledger.{key, cell, figureAt, marked, partAt}
 use Rattle.book.specs.declared.ledger.Book.{Book}
 
 -- "every part within ±3.84 × 10^15, and zero where unmarked"
@@ -27,8 +27,8 @@ figuresSound openYear year lot shortage =
 -- i counts the years from the first
 unfoldable pub yearSound : Book → ℕ → ℕ → ℕ → Bool
 yearSound b m s i =
-    figuresSound (b .«open_year») (firstYear + i) (at (b .lots) (key m s (firstYear + i)))
-    (at (b .shortages) (key m s (firstYear + i)))
+    figuresSound (b .«open_year») (firstYear + i) (figureAt (b .lots) (key m s (firstYear + i)))
+    (figureAt (b .shortages) (key m s (firstYear + i)))
 
 unfoldable pub cellSound : Book → ℕ → ℕ → Bool
 cellSound b m s = allBelow families (familySound b (cell m s)) && allBelow years (yearSound b m s)
@@ -42,7 +42,7 @@ cellsSound b = allBelow makers (makerSound b)
 
 -- "for each set and vintage the lots of all makers together at most 2 × 10^11"
 abbrev pub lotOf : List ℕ → ℕ → ℕ → ℕ → ℕ
-lotOf l s i m = at l (key m s (firstYear + i))
+lotOf l s i m = figureAt l (key m s (firstYear + i))
 
 unfoldable pub totalSound : List ℕ → ℕ → ℕ → Bool
 totalSound l s i = leb (sumBelow makers (lotOf l s i)) lotsMost

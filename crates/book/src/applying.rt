@@ -1,13 +1,15 @@
 // Apply: lowers a lot, and a shortage of the same maker and set by as much.
 ghost use mathlib.Core.Path.{_≡_};
-ghost use Rattle.book.specs.Ledger.{bookOf};
+ghost use Prim.Native.Nat.{_≤_};
+ghost use Rattle.book.specs.Sizes.{allClosed};
 ghost use Rattle.book.specs.Refusals.{firstRefusal};
-ghost use Rattle.book.specs.Rules.{posted, applyTable};
+ghost use Rattle.book.specs.Rules.{posted, applyRows};
 ghost use Rattle.book.specs.declared.kinds.Call.{Call};
 use crate::answers::Answer;
 use crate::answers::Posted;
 use crate::answers::Refusal;
 use crate::answers::Verdict;
+use crate::head::head_verdict;
 use crate::kinds::Application;
 use crate::ledger::Book;
 use crate::ledger::MAKERS;
@@ -16,32 +18,38 @@ use crate::ledger::figure_at;
 use crate::ledger::place_of;
 use crate::life::is_live;
 use crate::life::is_open;
-use crate::soundness::arrays_sound;
 use figuring::units::Mg;
 
 pub fn apply(book: Book, p: Application) -> Posted
     ensures { λ r. ⌜ r ≡ posted book (Call.Apply p) ⌝ }
 {
     let mut after = book;
-    let verdict = apply_verdict(
+    let head = head_verdict(
         after.open_year,
         &after.marks,
         &after.parts,
         &after.lots,
         &after.shortages,
-        p,
     );
-    let answer = match verdict {
+    let answer = match head {
         Verdict::Refuse(why) => Answer::Refused(why),
-        Verdict::Accepted => {
-            let pays = place_of(p.maker, p.set, p.vintage) as usize;
-            let gets = place_of(p.maker, p.set, p.year) as usize;
-            let left = after.lots[pays] - p.mg;
-            let open = after.shortages[gets] - p.mg;
-            after.lots[pays] = left;
-            after.shortages[gets] = open;
-            Answer::Left(Mg(left))
-        }
+        Verdict::Accepted => match apply_verdict(
+            after.open_year,
+            &after.lots,
+            &after.shortages,
+            p,
+        ) {
+            Verdict::Refuse(why) => Answer::Refused(why),
+            Verdict::Accepted => {
+                let pays = place_of(p.maker, p.set, p.vintage) as usize;
+                let gets = place_of(p.maker, p.set, p.year) as usize;
+                let left = after.lots[pays] - p.mg;
+                let open = after.shortages[gets] - p.mg;
+                after.lots[pays] = left;
+                after.shortages[gets] = open;
+                Answer::Left(Mg(left))
+            }
+        },
     };
     Posted {
         answer,
@@ -51,17 +59,13 @@ pub fn apply(book: Book, p: Application) -> Posted
 
 fn apply_verdict<'a>(
     open_year: u64,
-    marks: &'a [u64; 32],
-    parts: &'a [i64; 2048],
     lots: &'a [u64; 768],
     shortages: &'a [u64; 768],
     p: Application,
 ) -> Verdict
-    ensures { λ r. ⌜ r ≡ firstRefusal (applyTable (bookOf «open_year» (now (marks .entry)) (now (parts .entry)) (now (lots .entry)) (now (shortages .entry))) p) ⌝ }
+    requires { ⌜ «open_year» ≤ allClosed ⌝ }
+    ensures { λ r. ⌜ r ≡ firstRefusal (applyRows «open_year» (now (lots .entry)) (now (shortages .entry)) p) ⌝ }
 {
-    if !arrays_sound(open_year, marks, parts, lots, shortages) {
-        return Verdict::Refuse(Refusal::UnsoundBook);
-    }
     if p.maker >= MAKERS {
         return Verdict::Refuse(Refusal::UnknownMaker);
     }

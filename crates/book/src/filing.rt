@@ -2,14 +2,14 @@
 ghost use mathlib.Core.Path.{_≡_};
 ghost use Rattle.figuring.specs.Parts.{familyPart};
 ghost use Rattle.figuring.specs.Standards.{standardFor, gramsOf};
-ghost use Rattle.book.specs.Ledger.{bookOf};
 ghost use Rattle.book.specs.Refusals.{firstRefusal};
-ghost use Rattle.book.specs.Rules.{posted, fileTable};
+ghost use Rattle.book.specs.Rules.{posted, fileRows};
 ghost use Rattle.book.specs.declared.kinds.Call.{Call};
 use crate::answers::Answer;
 use crate::answers::Posted;
 use crate::answers::Refusal;
 use crate::answers::Verdict;
+use crate::head::head_verdict;
 use crate::kinds::Filing;
 use crate::ledger::ALL_CLOSED;
 use crate::ledger::Book;
@@ -18,7 +18,6 @@ use crate::ledger::MAKERS;
 use crate::ledger::SETS;
 use crate::ledger::is_marked;
 use crate::ledger::with_bit;
-use crate::soundness::arrays_sound;
 use figuring::parts::FamilyPart;
 use figuring::parts::family_part;
 use figuring::parts::within_limits;
@@ -30,28 +29,30 @@ pub fn file(book: Book, f: Filing) -> Posted
     ensures { λ r. ⌜ r ≡ posted book (Call.File f) ⌝ }
 {
     let mut after = book;
-    let verdict = file_verdict(
+    let head = head_verdict(
         after.open_year,
         &after.marks,
         &after.parts,
         &after.lots,
         &after.shortages,
-        f,
     );
-    let answer = match verdict {
+    let answer = match head {
         Verdict::Refuse(why) => Answer::Refused(why),
-        Verdict::Accepted => match part_of(f) {
-            FamilyPart::OutOfLimits => Answer::Refused(Refusal::OutOfLimits),
-            FamilyPart::Figured(part) => {
-                let cell = f.maker * SETS + f.set;
-                let family = f.family;
-                let mark = with_bit(after.marks[cell as usize], family);
-                let figure = part.0;
-                after.marks[cell as usize] = mark;
-                after.parts[(cell * FAMILIES + family) as usize] = figure;
-                // The count is the number of ones in the mark.
-                Answer::Filed(part, u64::count_ones(mark) as u64)
-            }
+        Verdict::Accepted => match file_verdict(after.open_year, &after.marks, f) {
+            Verdict::Refuse(why) => Answer::Refused(why),
+            Verdict::Accepted => match part_of(f) {
+                FamilyPart::OutOfLimits => Answer::Refused(Refusal::OutOfLimits),
+                FamilyPart::Figured(part) => {
+                    let cell = f.maker * SETS + f.set;
+                    let family = f.family;
+                    let mark = with_bit(after.marks[cell as usize], family);
+                    let figure = part.0;
+                    after.marks[cell as usize] = mark;
+                    after.parts[(cell * FAMILIES + family) as usize] = figure;
+                    // The count is the number of ones in the mark.
+                    Answer::Filed(part, u64::count_ones(mark) as u64)
+                }
+            },
         },
     };
     Posted {
@@ -68,19 +69,9 @@ fn part_of(f: Filing) -> FamilyPart
     family_part(standard, f.fcl, f.cf, f.volume, f.life)
 }
 
-fn file_verdict<'a>(
-    open_year: u64,
-    marks: &'a [u64; 32],
-    parts: &'a [i64; 2048],
-    lots: &'a [u64; 768],
-    shortages: &'a [u64; 768],
-    f: Filing,
-) -> Verdict
-    ensures { λ r. ⌜ r ≡ firstRefusal (fileTable (bookOf «open_year» (now (marks .entry)) (now (parts .entry)) (now (lots .entry)) (now (shortages .entry))) f) ⌝ }
+fn file_verdict(open_year: u64, marks: &[u64; 32], f: Filing) -> Verdict
+    ensures { λ r. ⌜ r ≡ firstRefusal (fileRows «open_year» (now (marks .entry)) f) ⌝ }
 {
-    if !arrays_sound(open_year, marks, parts, lots, shortages) {
-        return Verdict::Refuse(Refusal::UnsoundBook);
-    }
     if f.maker >= MAKERS {
         return Verdict::Refuse(Refusal::UnknownMaker);
     }

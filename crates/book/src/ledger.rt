@@ -4,7 +4,7 @@
 ghost use mathlib.Core.Path.{_≡_};
 ghost use Prim.Native.Nat.{_+_, _*_, _<_};
 ghost use Rattle.book.specs.Sizes.{families, places};
-ghost use Rattle.book.specs.Ledger.{key, In, place, at, marked, withMark};
+ghost use Rattle.book.specs.Ledger.{key, In, place, figureAt, marked, withMark};
 ghost use Rattle.book.specs.Postings.{freshBook};
 use figuring::years::FIRST_YEAR;
 
@@ -54,7 +54,7 @@ pub(crate) fn place_of(maker: u64, set: u64, year: u64) -> u64
 // The figure of a maker, a set and a year.
 pub(crate) fn figure_at(figures: &[u64; 768], maker: u64, set: u64, year: u64) -> u64
     requires { ⌜ In (key maker set year) ⌝ }
-    ensures { λ r. ⌜ r ≡ at (now (figures .entry)) (key maker set year) ⌝ }
+    ensures { λ r. ⌜ r ≡ figureAt (now (figures .entry)) (key maker set year) ⌝ }
 {
     figures[place_of(maker, set, year) as usize]
 }

@@ -4,6 +4,7 @@ pub mod applying;
 pub mod claims;
 pub mod closing;
 pub mod filing;
+mod head;
 pub mod in_place;
 pub mod kinds;
 pub mod ledger;

@@ -1,13 +1,15 @@
 // Trade: moves Mg between two makers' lots of one set and vintage.
 ghost use mathlib.Core.Path.{_≡_};
-ghost use Rattle.book.specs.Ledger.{bookOf};
+ghost use Prim.Native.Nat.{_≤_};
+ghost use Rattle.book.specs.Sizes.{allClosed};
 ghost use Rattle.book.specs.Refusals.{firstRefusal};
-ghost use Rattle.book.specs.Rules.{posted, tradeTable};
+ghost use Rattle.book.specs.Rules.{posted, tradeRows};
 ghost use Rattle.book.specs.declared.kinds.Call.{Call};
 use crate::answers::Answer;
 use crate::answers::Posted;
 use crate::answers::Refusal;
 use crate::answers::Verdict;
+use crate::head::head_verdict;
 use crate::kinds::Trade;
 use crate::ledger::Book;
 use crate::ledger::MAKERS;
@@ -16,32 +18,38 @@ use crate::ledger::figure_at;
 use crate::ledger::place_of;
 use crate::life::has_shortage;
 use crate::life::is_live;
-use crate::soundness::arrays_sound;
 use figuring::units::Mg;
 
 pub fn trade(book: Book, t: Trade) -> Posted
     ensures { λ r. ⌜ r ≡ posted book (Call.Trade t) ⌝ }
 {
     let mut after = book;
-    let verdict = trade_verdict(
+    let head = head_verdict(
         after.open_year,
         &after.marks,
         &after.parts,
         &after.lots,
         &after.shortages,
-        t,
     );
-    let answer = match verdict {
+    let answer = match head {
         Verdict::Refuse(why) => Answer::Refused(why),
-        Verdict::Accepted => {
-            let pays = place_of(t.from, t.set, t.vintage) as usize;
-            let gets = place_of(t.to, t.set, t.vintage) as usize;
-            let left = after.lots[pays] - t.mg;
-            let more = after.lots[gets] + t.mg;
-            after.lots[pays] = left;
-            after.lots[gets] = more;
-            Answer::Left(Mg(left))
-        }
+        Verdict::Accepted => match trade_verdict(
+            after.open_year,
+            &after.lots,
+            &after.shortages,
+            t,
+        ) {
+            Verdict::Refuse(why) => Answer::Refused(why),
+            Verdict::Accepted => {
+                let pays = place_of(t.from, t.set, t.vintage) as usize;
+                let gets = place_of(t.to, t.set, t.vintage) as usize;
+                let left = after.lots[pays] - t.mg;
+                let more = after.lots[gets] + t.mg;
+                after.lots[pays] = left;
+                after.lots[gets] = more;
+                Answer::Left(Mg(left))
+            }
+        },
     };
     Posted {
         answer,
@@ -51,17 +59,13 @@ pub fn trade(book: Book, t: Trade) -> Posted
 
 fn trade_verdict<'a>(
     open_year: u64,
-    marks: &'a [u64; 32],
-    parts: &'a [i64; 2048],
     lots: &'a [u64; 768],
     shortages: &'a [u64; 768],
     t: Trade,
 ) -> Verdict
-    ensures { λ r. ⌜ r ≡ firstRefusal (tradeTable (bookOf «open_year» (now (marks .entry)) (now (parts .entry)) (now (lots .entry)) (now (shortages .entry))) t) ⌝ }
+    requires { ⌜ «open_year» ≤ allClosed ⌝ }
+    ensures { λ r. ⌜ r ≡ firstRefusal (tradeRows «open_year» (now (lots .entry)) (now (shortages .entry)) t) ⌝ }
 {
-    if !arrays_sound(open_year, marks, parts, lots, shortages) {
-        return Verdict::Refuse(Refusal::UnsoundBook);
-    }
     if t.from >= MAKERS {
         return Verdict::Refuse(Refusal::UnknownMaker);
     }

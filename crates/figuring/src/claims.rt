@@ -3,7 +3,7 @@
 ghost use Prim.Native.Nat.{ℕ};
 ghost use mathlib.Core.Bool.{true};
 ghost use mathlib.Core.Path.{_≡_};
-ghost use Rattle.figuring.specs.Marked.{MarkedFigures};
+ghost use Rattle.figuring.specs.Marked.{FiguringMarked};
 ghost use Rattle.figuring.specs.Netting.{IsNearest, nearest};
 
 // A close rounds to the nearest Mg.
@@ -15,7 +15,7 @@ pub fn rounds_to_nearest() -> bool
 
 // The marked figures that figuring settles.
 pub fn marked_figures() -> bool
-    ensures { λ r. ⌜ (r ≡ true) × MarkedFigures ⌝ }
+    ensures { λ r. ⌜ (r ≡ true) × FiguringMarked ⌝ }
 {
     true
 }

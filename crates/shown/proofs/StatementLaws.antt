@@ -10,7 +10,7 @@ use lib.Dec.{ltb, eqb}
 use lib.ListN.{getD, drop}
 use Rattle.figuring.specs.Years.{firstYear, lastYear}
 use Rattle.book.specs.Sizes.{makers, sets, years}
-use Rattle.book.specs.Ledger.{Key, key, In, at}
+use Rattle.book.specs.Ledger.{Key, key, In, figureAt}
 use Rattle.book.specs.Life.{closedYear, live, expired, openShort, overdue}
 use Rattle.book.specs.Listing.{isCellYear, lotIf, lotEntry, shortageIf, shortageEntry}
 use Rattle.book.specs.Accounts.{Accounts, move, feed, feedAll}
@@ -149,8 +149,8 @@ module _ (b : Book) (a : Accounts) (w : Sound b) (r : (k : Key) → In k → Rec
     lot-line i hi =
         let k : Key = key m s (firstYear + i) in
         let j : In k = omega arith in
-        let e : at (b .lots) k ≡ lotBy a k = omega (arith, r k j .lot) in
-        lot-shown (b .«open_year») m s (firstYear + i) hm hs (omega arith) (omega arith) (at (b .lots) k) (closed-year _ _ _ (λ l. w .ahead k j l .0))
+        let e : figureAt (b .lots) k ≡ lotBy a k = omega (arith, r k j .lot) in
+        lot-shown (b .«open_year») m s (firstYear + i) hm hs (omega arith) (omega arith) (figureAt (b .lots) k) (closed-year _ _ _ (λ l. w .ahead k j l .0))
         ∙ ap (λ (n : ℕ). printed (b .«open_year») (above0 n (lot k n))) e
 
     shortage-line : (i : ℕ) → i < years → shortageLine (b .«open_year») (b .shortages) m s i ≡ printed (b .«open_year») (shortItem a m s i)
@@ -158,8 +158,8 @@ module _ (b : Book) (a : Accounts) (w : Sound b) (r : (k : Key) → In k → Rec
     shortage-line i hi =
         let k : Key = key m s (firstYear + i) in
         let j : In k = omega arith in
-        let e : at (b .shortages) k ≡ shortageBy a k = omega (arith, r k j .shortage) in
-        shortage-shown (b .«open_year») m s (firstYear + i) hm hs (omega arith) (omega arith) (at (b .shortages) k) (closed-year _ _ _ (λ l. w .ahead k j l .1))
+        let e : figureAt (b .shortages) k ≡ shortageBy a k = omega (arith, r k j .shortage) in
+        shortage-shown (b .«open_year») m s (firstYear + i) hm hs (omega arith) (omega arith) (figureAt (b .shortages) k) (closed-year _ _ _ (λ l. w .ahead k j l .1))
         ∙ ap (λ (n : ℕ). printed (b .«open_year») (above0 n (short k n))) e
 
     cell-same : cellText b m s ≡ printed (b .«open_year») (cellItems a m s)

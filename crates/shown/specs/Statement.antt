@@ -72,8 +72,8 @@ items a = collect makers (λ m. collect sets (cellItems a m))
 
 -- an item's place in the order: makers rising, then sets; of a cell the lots by year, then the shortages by year
 abbrev pub rank : Item → ℕ
-rank (lot k n) = cell (k .maker) (k .kind) * (years + years) + (k .year - firstYear)
-rank (short k n) = cell (k .maker) (k .kind) * (years + years) + years + (k .year - firstYear)
+rank (lot k n) = cell (k .maker) (k .set) * (years + years) + (k .year - firstYear)
+rank (short k n) = cell (k .maker) (k .set) * (years + years) + years + (k .year - firstYear)
 
 -- a line's form: Y is the open year; a lot shown that is not live is expired, a shortage that is not open is overdue
 abbrev pub itemPattern : ℕ → Item → List ℕ
@@ -82,8 +82,8 @@ itemPattern Y (short k n) = cond (openShort Y (k .year)) (ascii "(short # # # op
 
 -- and its figures: maker, set, year, Mg
 abbrev pub itemFigures : Item → List ℕ
-itemFigures (lot k n) = k .maker ∷ k .kind ∷ k .year ∷ n ∷ []
-itemFigures (short k n) = k .maker ∷ k .kind ∷ k .year ∷ n ∷ []
+itemFigures (lot k n) = k .maker ∷ k .set ∷ k .year ∷ n ∷ []
+itemFigures (short k n) = k .maker ∷ k .set ∷ k .year ∷ n ∷ []
 
 unfoldable pub itemLine : ℕ → Item → List ℕ
 itemLine Y x = filled (itemPattern Y x) (itemFigures x)

@@ -1,43 +1,73 @@
--- The verdict decides. Accepted, it gives `Applicable`: the two places and the bounds.
+-- Accepted, an application is `Applicable`: the two places and the bounds.
+use mathlib.Core.Bool.{true}
+use mathlib.Core.List.{List}
 use mathlib.Core.Path.{_≡_, sym, _∙_}
+use native.Mathlib.Omega.{arith}
 use borrow.Author.Needs.{needs}
-use Rattle.book.specs.Ledger.{at, lower}
-use Rattle.book.specs.Postings.{applied}
-use Rattle.book.specs.Refusals.{firstRefusal}
-use Rattle.book.specs.Rules.{table, done, applyTable}
+use Rattle.book.specs.Ledger.{figureAt, lower}
+use Rattle.book.specs.Soundness.{sound}
+use Rattle.book.specs.Refusals.{Row, firstRefusal}
+use Rattle.book.specs.Rules.{headRows, ownRows, done, applyRows}
+use Rattle.book.specs.Postings.{applicationDone}
 use Rattle.book.specs.declared.kinds.Call.{Call}
 use Rattle.book.specs.declared.answers.Verdict.the-variants.{Accepted}
-use Rattle.book.proofs.TableLaws.{posted-refused, posted-accepted}
+use Rattle.book.proofs.TableLaws.{head-sound, head-refuses, own-decide}
+use Rattle.book.proofs.SoundnessLaws.{sound-is}
 use Rattle.book.proofs.MoveFacts.{Applicable, applicable}
 use Rattle.book.proofs.applying.apply.Statement.{statement}
 use Rattle.book.proofs.applying.apply.Tie as tie
 
-abbrev entry : tie.After-apply-verdict → tie.Start
+-- the head, over the book as it came
+abbrev entry : tie.After-head-verdict → tie.Start
 entry c = c .before .before .before .before .before .before
 
--- the lent arrays are those of the book as it came
-said :
-    (c : tie.After-apply-verdict)
-    → c .apply-verdict .result ≡ firstRefusal (applyTable (entry c .args .book) (entry c .args .p))
-said c = c .apply-verdict .ensures
+headed : (c : tie.After-head-verdict) → c .head-verdict .result ≡ firstRefusal (headRows (entry c .args .book))
+headed c = c .head-verdict .ensures
 
+-- where the head has passed, the book is sound
 abbrev start : tie.After-enum-told → tie.Start
 start c = entry (c .before .before)
 
-accepted : (c : tie.After-enum-told) → firstRefusal (applyTable (start c .args .book) (start c .args .p)) ≡ Accepted
-accepted c = sym (said (c .before .before)) ∙ c .enum-told .given .1
+book-sound : (c : tie.After-enum-told) → sound (start c .args .book) ≡ true
+book-sound c = head-sound _ (sym (headed (c .before .before)) ∙ c .enum-told .given .1)
 
-facts : (c : tie.After-enum-told) → Applicable (start c .args .book) (start c .args .p)
-facts c = applicable _ _ (accepted c)
+-- the call's own rows
+abbrev passed : tie.After-apply-verdict → tie.After-enum-told
+passed c = c .before .before .before .before
 
-apply-verdict-requires : tie.Need-apply-verdict-requires
-apply-verdict-requires c κs = search needs
+abbrev own : tie.Start → List Row
+own s = applyRows (s .args .book .«open_year») (s .args .book .lots) (s .args .book .shortages) (s .args .p)
 
-enum-known-verdict : tie.Need-enum-known-verdict
-enum-known-verdict c = search needs
+said : (c : tie.After-apply-verdict) → c .apply-verdict .result ≡ firstRefusal (own (start (passed c)))
+said c = c .apply-verdict .ensures
+
+-- where they have passed too, the call is accepted
+abbrev taken : tie.After-enum-told2 → tie.After-enum-told
+taken c = passed (c .before .before)
+
+accepted : (c : tie.After-enum-told2) → firstRefusal (own (start (taken c))) ≡ Accepted
+accepted c = sym (said (c .before .before)) ∙ c .enum-told2 .given .1
+
+facts : (c : tie.After-enum-told2) → Applicable (start (taken c) .args .book) (start (taken c) .args .p)
+facts c = applicable _ _ (book-sound (taken c)) (accepted c)
+
+head-verdict-requires : tie.Need-head-verdict-requires
+head-verdict-requires c κs = search needs
+
+enum-known-head : tie.Need-enum-known-head
+enum-known-head c = search needs
 
 enum-told : tie.Need-enum-told
 enum-told c = search needs
+
+apply-verdict-requires : tie.Need-apply-verdict-requires
+apply-verdict-requires c κs = sound-is _ (book-sound (c .before .before .before)) .high
+
+enum-known-why : tie.Need-enum-known-why
+enum-known-why c = search needs
+
+enum-told-2 : tie.Need-enum-told-2
+enum-told-2 c = search needs
 
 place-of-requires : tie.Need-place-of-requires
 place-of-requires c κs = facts c .payer .lot
@@ -52,7 +82,7 @@ element-copy-out-left : tie.Need-element-copy-out-left
 element-copy-out-left c = search needs
 
 sub-left : tie.Need-sub-left
-unfolding at
+unfolding figureAt
 sub-left c =
     rw (c .before .before .before .place-of .ensures .0)
     (facts (c .before .before .before .before) .payer .enough)
@@ -64,7 +94,7 @@ element-copy-out-open : tie.Need-element-copy-out-open
 element-copy-out-open c = search needs
 
 sub-open : tie.Need-sub-open
-unfolding at
+unfolding figureAt
 sub-open c =
     rw (c .before .before .before .before .place-of2 .ensures .0)
     (facts (c .before .before .before .before .before .before) .enough)
@@ -82,26 +112,34 @@ element-write-after-2 : tie.Need-element-write-after-2
 element-write-after-2 c = search needs
 
 returns : tie.Need-returns
-unfolding table
-returns c =
-    sym (posted-refused _ (Call.Apply _) (sym (said (c .before .before .before)) ∙ c .before .verdict .given .1))
+returns c = sym (head-refuses _ _ (sym (headed (c .before .before .before)) ∙ c .before .head .given .1))
 
 returns-2 : tie.Need-returns-2
-unfolding table done applied lower at
+unfolding ownRows
 returns-2 c =
+    let w = c .before .before .before in
+    sym (own-decide _ (Call.Apply _) (book-sound (passed w)) (sym (said w) ∙ c .before .why .given .1))
+
+returns-3 : tie.Need-returns-3
+unfolding ownRows done applicationDone figureAt lower
+returns-3 c =
+    let w = c .before .before .before .before .before .before in
     rw (
       c .before .before .before .before .before .place-of .ensures .0,
       c .before .before .before .before .place-of2 .ensures .0,
     )
-    (sym (posted-accepted _ (Call.Apply _) (accepted (c .before .before .before .before .before .before))))
+    (sym (own-decide _ (Call.Apply _) (book-sound (taken w)) (accepted w)))
 
 pub apply-spec : {M : Type 1} → statement M
 apply-spec =
     tie.close
     (tie.spec
-    apply-verdict-requires
-    enum-known-verdict
+    head-verdict-requires
+    enum-known-head
     enum-told
+    apply-verdict-requires
+    enum-known-why
+    enum-told-2
     place-of-requires
     place-of-requires-2
     mul-left
@@ -115,4 +153,5 @@ apply-spec =
     mul-after-2
     element-write-after-2
     returns
-    returns-2)
+    returns-2
+    returns-3)

@@ -1,6 +1,6 @@
 -- The theorem, cited.
 use mathlib.Core.Path.{refl}
-use Rattle.book.proofs.RefusalLaws as laws
+use Rattle.book.proofs.CallLaws as laws
 use Rattle.book.proofs.claims.checking_order.Statement.{statement}
 use Rattle.book.proofs.claims.checking_order.Tie as tie
 

@@ -1,58 +1,105 @@
+use mathlib.Core.Bool.{true}
+use mathlib.Core.List.{List}
 use mathlib.Core.Path.{_≡_, sym, _∙_}
 use native.Mathlib.Omega.{arith}
 use borrow.Author.Needs.{needs}
-use Rattle.book.specs.Refusals.{firstRefusal}
-use Rattle.book.specs.Rules.{closeTable, table, done}
-use Rattle.book.specs.Postings.{closed}
+use Rattle.book.specs.Soundness.{sound}
+use Rattle.book.specs.Refusals.{Row, firstRefusal}
+use Rattle.book.specs.Rules.{headRows, ownRows, done, closeRows}
+use Rattle.book.specs.Postings.{closeDone}
+use Rattle.book.specs.declared.kinds.Call.{Call}
 use Rattle.book.specs.declared.answers.Verdict.the-variants.{Accepted}
-use Rattle.book.proofs.TableLaws.{posted-refused, posted-accepted}
+use Rattle.book.proofs.TableLaws.{head-sound, head-refuses, own-decide}
 use Rattle.book.proofs.CloseFacts.{Closable, closable}
 use Rattle.book.proofs.closing.close.Statement.{statement}
 use Rattle.book.proofs.closing.close.Tie as tie
 
+-- the head, over the book as it came
+abbrev entry : tie.After-head-verdict → tie.Start
+entry c = c .before .before .before .before .before .before
+
+headed : (c : tie.After-head-verdict) → c .head-verdict .result ≡ firstRefusal (headRows (entry c .args .book))
+headed c = c .head-verdict .ensures
+
+-- where the head has passed, the book is sound
 abbrev start : tie.After-enum-told → tie.Start
-start c = c .before .before .before .before .before .before .before .before
+start c = entry (c .before .before)
 
-accepted : (c : tie.After-enum-told) → firstRefusal (closeTable (start c .args .book) (start c .args .year)) ≡ Accepted
-accepted c = sym (c .before .before .close-verdict .ensures) ∙ c .enum-told .given .1
+book-sound : (c : tie.After-enum-told) → sound (start c .args .book) ≡ true
+book-sound c = head-sound _ (sym (headed (c .before .before)) ∙ c .enum-told .given .1)
 
-facts : (c : tie.After-enum-told) → Closable (start c .args .book) (start c .args .year)
-facts c = closable _ _ (accepted c)
+-- the call's own rows
+abbrev passed : tie.After-close-verdict → tie.After-enum-told
+passed c = c .before
 
-close-verdict-requires : tie.Need-close-verdict-requires
-close-verdict-requires c κs = search needs
+abbrev own : tie.Start → List Row
+own s = closeRows (s .args .book .«open_year») (s .args .year)
 
-enum-known-verdict : tie.Need-enum-known-verdict
-enum-known-verdict c = search needs
+said : (c : tie.After-close-verdict) → c .close-verdict .result ≡ firstRefusal (own (start (passed c)))
+said c = c .close-verdict .ensures
+
+-- where they have passed too, the call is accepted
+abbrev taken : tie.After-enum-told2 → tie.After-enum-told
+taken c = passed (c .before .before)
+
+accepted : (c : tie.After-enum-told2) → firstRefusal (own (start (taken c))) ≡ Accepted
+accepted c = sym (said (c .before .before)) ∙ c .enum-told2 .given .1
+
+facts : (c : tie.After-enum-told2) → Closable (start (taken c) .args .book) (start (taken c) .args .year)
+facts c = closable _ _ (book-sound (taken c)) (accepted c)
+
+head-verdict-requires : tie.Need-head-verdict-requires
+head-verdict-requires c κs = search needs
+
+enum-known-head : tie.Need-enum-known-head
+enum-known-head c = search needs
 
 enum-told : tie.Need-enum-told
 enum-told c = search needs
 
+close-verdict-requires : tie.Need-close-verdict-requires
+close-verdict-requires c κs = search needs
+
+enum-known-why : tie.Need-enum-known-why
+enum-known-why c = search needs
+
+enum-told-2 : tie.Need-enum-told-2
+enum-told-2 c = search needs
+
 net-cells-requires : tie.Need-net-cells-requires
 net-cells-requires c κs = (facts c .sound, facts c .upto)
 
-add-t18 : tie.Need-add-t18
-add-t18 c = omega (arith, facts (c .before .before .before))
+add-t22 : tie.Need-add-t22
+add-t22 c = omega (arith, facts (c .before .before .before))
 
 returns : tie.Need-returns
-unfolding table
-returns c =
-    sym (posted-refused _ _ (sym (c .before .before .before .close-verdict .ensures) ∙ c .before .verdict .given .1))
+returns c = sym (head-refuses _ _ (sym (headed (c .before .before .before)) ∙ c .before .head .given .1))
 
 returns-2 : tie.Need-returns-2
-unfolding table done closed
+unfolding ownRows
 returns-2 c =
+    let w = c .before .before .before in
+    sym (own-decide _ (Call.Close _) (book-sound (passed w)) (sym (said w) ∙ c .before .why .given .1))
+
+returns-3 : tie.Need-returns-3
+unfolding ownRows done closeDone
+returns-3 c =
     let e = c .before .before .net-cells .ensures in
-    rw (e .0, e .1 .0, e .1 .1) (sym (posted-accepted _ _ (accepted (c .before .before .before))))
+    let w = c .before .before .before in
+    rw (e .0, e .1 .0, e .1 .1) (sym (own-decide _ (Call.Close _) (book-sound (taken w)) (accepted w)))
 
 pub close-spec : {M : Type 1} → statement M
 close-spec =
     tie.close
     (tie.spec
-    close-verdict-requires
-    enum-known-verdict
+    head-verdict-requires
+    enum-known-head
     enum-told
+    close-verdict-requires
+    enum-known-why
+    enum-told-2
     net-cells-requires
-    add-t18
+    add-t22
     returns
-    returns-2)
+    returns-2
+    returns-3)

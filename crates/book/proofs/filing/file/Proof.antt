@@ -1,62 +1,100 @@
 -- An accepted filing is within its limits (facts), so that the arm without a part is never reached and the part that is
 -- stored is the filing's own (figure).
+use mathlib.Core.Bool.{true}
+use mathlib.Core.List.{List}
 use mathlib.Core.Path.{_≡_, sym, _∙_}
 use native.Mathlib.Omega.{arith}
 use borrow.Author.Needs.{needs}
 use lib.Count.{ones-le}
 use mir.Facts.{toZ-ofZ}
-use Rattle.book.specs.Refusals.{firstRefusal}
-use Rattle.book.specs.Rules.{fileTable, table, done}
+use Rattle.book.specs.Soundness.{sound}
+use Rattle.book.specs.Refusals.{Row, firstRefusal}
+use Rattle.book.specs.Rules.{headRows, ownRows, done, fileRows}
 use Rattle.book.specs.Postings.{partFor, stored}
+use Rattle.book.specs.declared.kinds.Call.{Call}
 use Rattle.book.specs.declared.answers.Verdict.the-variants.{Accepted}
-use Rattle.book.proofs.TableLaws.{posted-refused, posted-accepted}
+use Rattle.book.proofs.TableLaws.{head-sound, head-refuses, own-decide}
 use Rattle.book.proofs.FileFacts.{Fileable, fileable, part-is, never-out}
 use Rattle.book.proofs.filing.file.Statement.{statement}
 use Rattle.book.proofs.filing.file.Tie as tie
 
+-- the head, over the book as it came
+abbrev entry : tie.After-head-verdict → tie.Start
+entry c = c .before .before .before .before .before .before
+
+headed : (c : tie.After-head-verdict) → c .head-verdict .result ≡ firstRefusal (headRows (entry c .args .book))
+headed c = c .head-verdict .ensures
+
+-- where the head has passed, the book is sound
 abbrev start : tie.After-enum-told → tie.Start
-start c = c .before .before .before .before .before .before .before .before
+start c = entry (c .before .before)
 
-accepted : (c : tie.After-enum-told) → firstRefusal (fileTable (start c .args .book) (start c .args .f)) ≡ Accepted
-accepted c = sym (c .before .before .file-verdict .ensures) ∙ c .enum-told .given .1
+book-sound : (c : tie.After-enum-told) → sound (start c .args .book) ≡ true
+book-sound c = head-sound _ (sym (headed (c .before .before)) ∙ c .enum-told .given .1)
 
-facts : (c : tie.After-enum-told) → Fileable (start c .args .book) (start c .args .f)
-facts c = fileable _ _ (accepted c)
+-- the call's own rows
+abbrev passed : tie.After-file-verdict → tie.After-enum-told
+passed c = c .before .before .before
 
-abbrev told : tie.After-part → tie.After-enum-told
-told c = c .before .before .before
+abbrev own : tie.Start → List Row
+own s = fileRows (s .args .book .«open_year») (s .args .book .marks) (s .args .f)
 
-figure : (c : tie.After-part) → c .part .given .0 .0 .0 ≡ partFor (start (told c) .args .f)
+said : (c : tie.After-file-verdict) → c .file-verdict .result ≡ firstRefusal (own (start (passed c)))
+said c = c .file-verdict .ensures
+
+-- where they have passed too, the call is accepted
+abbrev taken : tie.After-enum-told2 → tie.After-enum-told
+taken c = passed (c .before .before)
+
+accepted : (c : tie.After-enum-told2) → firstRefusal (own (start (taken c))) ≡ Accepted
+accepted c = sym (said (c .before .before)) ∙ c .enum-told2 .given .1
+
+facts : (c : tie.After-enum-told2) → Fileable (start (taken c) .args .book) (start (taken c) .args .f)
+facts c = fileable _ _ (book-sound (taken c)) (accepted c)
+
+abbrev part-taken : tie.After-part → tie.After-enum-told2
+part-taken c = c .before .before .before
+
+figure : (c : tie.After-part) → c .part .given .0 .0 .0 ≡ partFor (start (taken (part-taken c)) .args .f)
 unfolding partFor
-figure c = part-is _ _ _ _ _ (facts (told c) .limits) (c .before .before .part-of .ensures) (c .part .given .1)
+figure c = part-is _ _ _ _ _ (facts (part-taken c) .limits) (c .before .before .part-of .ensures) (c .part .given .1)
 
 -- the arm that stores the part, where its cell is figured and where it is written
-abbrev at-cell : tie.After-struct-known2 → tie.After-enum-told
-at-cell c = told (c .before .before .before)
+abbrev at-cell : tie.After-struct-known2 → tie.After-enum-told2
+at-cell c = part-taken (c .before .before .before)
 
-abbrev storing : tie.After-struct-told → tie.After-enum-told
+abbrev storing : tie.After-struct-told → tie.After-enum-told2
 storing c = at-cell (c .before .before .before)
 
-file-verdict-requires : tie.Need-file-verdict-requires
-file-verdict-requires c κs = search needs
+head-verdict-requires : tie.Need-head-verdict-requires
+head-verdict-requires c κs = search needs
 
-enum-known-verdict : tie.Need-enum-known-verdict
-enum-known-verdict c = search needs
+enum-known-head : tie.Need-enum-known-head
+enum-known-head c = search needs
 
 enum-told : tie.Need-enum-told
 enum-told c = search needs
 
-part-of-requires : tie.Need-part-of-requires
-part-of-requires c κs = search needs
+file-verdict-requires : tie.Need-file-verdict-requires
+file-verdict-requires c κs = search needs
+
+enum-known-why : tie.Need-enum-known-why
+enum-known-why c = search needs
 
 enum-told-2 : tie.Need-enum-told-2
 enum-told-2 c = search needs
+
+part-of-requires : tie.Need-part-of-requires
+part-of-requires c κs = search needs
+
+enum-told-3 : tie.Need-enum-told-3
+enum-told-3 c = search needs
 
 enum-known-part : tie.Need-enum-known-part
 enum-known-part c = search needs
 
 mul-cell : tie.Need-mul-cell
-mul-cell c = omega (arith, facts (told (c .before .before)))
+mul-cell c = omega (arith, facts (part-taken (c .before .before)))
 
 add-cell : tie.Need-add-cell
 add-cell c = omega (arith, facts (at-cell c))
@@ -88,45 +126,52 @@ mul-figure-2 c = omega (arith, facts (storing c))
 element-set-from-figure : tie.Need-element-set-from-figure
 element-set-from-figure c = omega (arith, facts (storing c))
 
--- A count of any 64-bit number fits: so a count of another number than the mark would pass here and fail at `returns-3`.
-cast-t21 : tie.Need-cast-t21
-cast-t21 c =
+-- A count of any 64-bit number fits: so a count of another number than the mark would pass here and fail at `returns-4`.
+cast-t26 : tie.Need-cast-t26
+cast-t26 c =
     omega (
       arith,
       ones-le 64 (c .before .with-bit .result) (c .before .with-bit .ok),
-      ones-le 64 (start (storing c) .args .f .family) (omega (arith, facts (storing c) .family)),
+      ones-le 64 (start (taken (storing c)) .args .f .family) (omega (arith, facts (storing c) .family)),
     )
 
 returns : tie.Need-returns
-unfolding table
-returns c =
-    sym (posted-refused _ _ (sym (c .before .before .before .file-verdict .ensures) ∙ c .before .verdict .given .1))
+returns c = sym (head-refuses _ _ (sym (headed (c .before .before .before)) ∙ c .before .head .given .1))
 
 returns-2 : tie.Need-returns-2
+unfolding ownRows
 returns-2 c =
-    absurd
-    (never-out _ _ _ _ _ (facts (c .before .before .before) .limits)
-    (c .before .before .part-of .ensures) (c .enum-told2 .given .1))
+    let w = c .before .before .before in
+    sym (own-decide _ (Call.File _) (book-sound (passed w)) (sym (said w) ∙ c .before .why .given .1))
 
 returns-3 : tie.Need-returns-3
-unfolding table done stored
 returns-3 c =
+    absurd
+    (never-out _ _ _ _ _ (facts (c .before .before .before) .limits)
+    (c .before .before .part-of .ensures) (c .enum-told3 .given .1))
+
+returns-4 : tie.Need-returns-4
+unfolding ownRows done stored
+returns-4 c =
     rw (
       c .before .with-bit .ensures,
       toZ-ofZ (record { sfits = c .struct-told .given .0 .1 }),
       figure (c .before .before .before .before .before .before),
     )
-    (sym (posted-accepted _ _ (accepted (storing c))))
+    (sym (own-decide _ (Call.File _) (book-sound (taken (storing c))) (accepted (storing c))))
 
 pub file-spec : {M : Type 1} → statement M
 file-spec =
     tie.close
     (tie.spec
-    file-verdict-requires
-    enum-known-verdict
+    head-verdict-requires
+    enum-known-head
     enum-told
-    part-of-requires
+    file-verdict-requires
+    enum-known-why
     enum-told-2
+    part-of-requires
+    enum-told-3
     enum-known-part
     mul-cell
     add-cell
@@ -139,7 +184,8 @@ file-spec =
     add-figure
     mul-figure-2
     element-set-from-figure
-    cast-t21
+    cast-t26
     returns
     returns-2
-    returns-3)
+    returns-3
+    returns-4)

@@ -1,7 +1,7 @@
 use Prim.Native.Nat.{ℕ}
 use mathlib.Core.Path.{ap}
 use lib.ListN.{getD}
-use Rattle.book.specs.Ledger.{at}
+use Rattle.book.specs.Ledger.{figureAt}
 use borrow.Author.Needs.{needs}
 use Rattle.book.proofs.ledger.figure_at.Statement.{statement}
 use Rattle.book.proofs.ledger.figure_at.Tie as tie
@@ -16,7 +16,7 @@ element-copy-out-result : tie.Need-element-copy-out-result
 element-copy-out-result c = search needs
 
 returns : tie.Need-returns
-unfolding at
+unfolding figureAt
 returns c = ap (λ (n : ℕ). getD (c .before .before .args .figures .now) n 0) (c .before .place-of .ensures .0)
 
 pub figure-at-spec : {M : Type 1} → statement M

@@ -1,44 +1,73 @@
--- The verdict decides. Accepted, it gives `Tradable`: the two places, the bounds, and that the places differ.
+-- Accepted, a trade is `Tradable`: the two places, the bounds, and that the places differ.
+use mathlib.Core.Bool.{true}
+use mathlib.Core.List.{List}
 use mathlib.Core.Path.{_≡_, sym, _∙_}
 use native.Mathlib.Omega.{arith}
 use borrow.Author.Needs.{needs}
-use Rattle.book.specs.Ledger.{at}
-use Rattle.book.specs.Postings.{traded}
-use Rattle.book.specs.Refusals.{firstRefusal}
-use Rattle.book.specs.Rules.{table, done, tradeTable}
+use Rattle.book.specs.Ledger.{figureAt}
+use Rattle.book.specs.Soundness.{sound}
+use Rattle.book.specs.Refusals.{Row, firstRefusal}
+use Rattle.book.specs.Rules.{headRows, ownRows, done, tradeRows}
+use Rattle.book.specs.Postings.{tradeDone}
 use Rattle.book.specs.declared.kinds.Call.{Call}
 use Rattle.book.specs.declared.answers.Verdict.the-variants.{Accepted}
-use Rattle.book.proofs.TableLaws.{posted-refused, posted-accepted}
+use Rattle.book.proofs.TableLaws.{head-sound, head-refuses, own-decide}
+use Rattle.book.proofs.SoundnessLaws.{sound-is}
 use Rattle.book.proofs.MoveFacts.{Tradable, tradable, swapped}
 use Rattle.book.proofs.trading.trade.Statement.{statement}
 use Rattle.book.proofs.trading.trade.Tie as tie
 
-abbrev entry : tie.After-trade-verdict → tie.Start
+-- the head, over the book as it came
+abbrev entry : tie.After-head-verdict → tie.Start
 entry c = c .before .before .before .before .before .before
 
--- the lent arrays are those of the book as it came
-said :
-    (c : tie.After-trade-verdict)
-    → c .trade-verdict .result ≡ firstRefusal (tradeTable (entry c .args .book) (entry c .args .t))
-said c = c .trade-verdict .ensures
+headed : (c : tie.After-head-verdict) → c .head-verdict .result ≡ firstRefusal (headRows (entry c .args .book))
+headed c = c .head-verdict .ensures
 
+-- where the head has passed, the book is sound
 abbrev start : tie.After-enum-told → tie.Start
 start c = entry (c .before .before)
 
-accepted : (c : tie.After-enum-told) → firstRefusal (tradeTable (start c .args .book) (start c .args .t)) ≡ Accepted
-accepted c = sym (said (c .before .before)) ∙ c .enum-told .given .1
+book-sound : (c : tie.After-enum-told) → sound (start c .args .book) ≡ true
+book-sound c = head-sound _ (sym (headed (c .before .before)) ∙ c .enum-told .given .1)
 
-facts : (c : tie.After-enum-told) → Tradable (start c .args .book) (start c .args .t)
-facts c = tradable _ _ (accepted c)
+-- the call's own rows
+abbrev passed : tie.After-trade-verdict → tie.After-enum-told
+passed c = c .before .before .before .before
 
-trade-verdict-requires : tie.Need-trade-verdict-requires
-trade-verdict-requires c κs = search needs
+abbrev own : tie.Start → List Row
+own s = tradeRows (s .args .book .«open_year») (s .args .book .lots) (s .args .book .shortages) (s .args .t)
 
-enum-known-verdict : tie.Need-enum-known-verdict
-enum-known-verdict c = search needs
+said : (c : tie.After-trade-verdict) → c .trade-verdict .result ≡ firstRefusal (own (start (passed c)))
+said c = c .trade-verdict .ensures
+
+-- where they have passed too, the call is accepted
+abbrev taken : tie.After-enum-told2 → tie.After-enum-told
+taken c = passed (c .before .before)
+
+accepted : (c : tie.After-enum-told2) → firstRefusal (own (start (taken c))) ≡ Accepted
+accepted c = sym (said (c .before .before)) ∙ c .enum-told2 .given .1
+
+facts : (c : tie.After-enum-told2) → Tradable (start (taken c) .args .book) (start (taken c) .args .t)
+facts c = tradable _ _ (book-sound (taken c)) (accepted c)
+
+head-verdict-requires : tie.Need-head-verdict-requires
+head-verdict-requires c κs = search needs
+
+enum-known-head : tie.Need-enum-known-head
+enum-known-head c = search needs
 
 enum-told : tie.Need-enum-told
 enum-told c = search needs
+
+trade-verdict-requires : tie.Need-trade-verdict-requires
+trade-verdict-requires c κs = sound-is _ (book-sound (c .before .before .before)) .high
+
+enum-known-why : tie.Need-enum-known-why
+enum-known-why c = search needs
+
+enum-told-2 : tie.Need-enum-told-2
+enum-told-2 c = search needs
 
 place-of-requires : tie.Need-place-of-requires
 place-of-requires c κs = facts c .seller .lot
@@ -53,7 +82,7 @@ element-copy-out-left : tie.Need-element-copy-out-left
 element-copy-out-left c = search needs
 
 sub-left : tie.Need-sub-left
-unfolding at
+unfolding figureAt
 sub-left c =
     rw (c .before .before .before .place-of .ensures .0)
     (facts (c .before .before .before .before) .seller .enough)
@@ -65,7 +94,7 @@ element-copy-out-more : tie.Need-element-copy-out-more
 element-copy-out-more c = search needs
 
 add-more : tie.Need-add-more
-unfolding at
+unfolding figureAt
 add-more c =
     rw (c .before .before .before .before .place-of2 .ensures .0)
     (omega (arith, facts (c .before .before .before .before .before .before) .room))
@@ -83,28 +112,35 @@ element-write-after-2 : tie.Need-element-write-after-2
 element-write-after-2 c = search needs
 
 returns : tie.Need-returns
-unfolding table
-returns c =
-    sym (posted-refused _ (Call.Trade _) (sym (said (c .before .before .before)) ∙ c .before .verdict .given .1))
+returns c = sym (head-refuses _ _ (sym (headed (c .before .before .before)) ∙ c .before .head .given .1))
 
 returns-2 : tie.Need-returns-2
-unfolding table done traded at
+unfolding ownRows
 returns-2 c =
-    let e = c .before .before .before .before .before .before in
+    let w = c .before .before .before in
+    sym (own-decide _ (Call.Trade _) (book-sound (passed w)) (sym (said w) ∙ c .before .why .given .1))
+
+returns-3 : tie.Need-returns-3
+unfolding ownRows done tradeDone figureAt
+returns-3 c =
+    let w = c .before .before .before .before .before .before in
     rw (
       c .before .before .before .before .before .place-of .ensures .0,
       c .before .before .before .before .place-of2 .ensures .0,
-      swapped _ _ (facts e),
+      swapped _ _ (facts w),
     )
-    (sym (posted-accepted _ (Call.Trade _) (accepted e)))
+    (sym (own-decide _ (Call.Trade _) (book-sound (taken w)) (accepted w)))
 
 pub trade-spec : {M : Type 1} → statement M
 trade-spec =
     tie.close
     (tie.spec
-    trade-verdict-requires
-    enum-known-verdict
+    head-verdict-requires
+    enum-known-head
     enum-told
+    trade-verdict-requires
+    enum-known-why
+    enum-told-2
     place-of-requires
     place-of-requires-2
     mul-left
@@ -118,4 +154,5 @@ trade-spec =
     mul-after-2
     element-write-after-2
     returns
-    returns-2)
+    returns-2
+    returns-3)

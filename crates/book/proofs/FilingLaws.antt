@@ -1,12 +1,13 @@
--- A filing keeps a sound book sound: its part is within the bound and its family is marked; nothing else changes.
+-- What an accepted filing keeps: a sound book sound, since its part is within the bound and its family marked; and the accounts'
+-- sum of its cell. Nothing else changes.
 use Prim.Native.Nat.{ℕ, _+_, _*_, _≤_, _<_}
 use mathlib.Core.Bool.{true, false, true≢false}
 use mathlib.Core.List.{List}
 use mathlib.Core.Logic.{_≢_}
-use mathlib.Core.Path.{_≡_, sym, _∙_}
+use mathlib.Core.Path.{_≡_, refl, sym, _∙_}
 use native.Mathlib.Omega.{arith}
 use native.Mathlib.Decide.{ℕ-discrete}
-use lib.ListN.{getD, set, length-set}
+use lib.ListN.{getD, set as store, length-set}
 use lib.Seq.{getD-set-same, getD-set-other}
 use lib.IntN.{ℤ, pos, natAbs}
 use Rattle.figuring.specs.Standards.{standardFor, gramsOf}
@@ -15,13 +16,19 @@ use Rattle.figuring.proofs.StandardLaws.{grams-range}
 use Rattle.figuring.proofs.PartLaws.{part-bound}
 use Rattle.book.specs.Sizes.{cells, families}
 use Rattle.book.specs.Ledger.{marked, withMark, partAt}
-use Rattle.book.specs.Postings.{filed, filingCell, stored, partFor}
+use Rattle.book.specs.Postings.{filingDone, filingCell, stored, partFor}
+use Rattle.book.specs.Rules.{done}
+use Rattle.book.specs.Accounts.{Accounts, move}
+use Rattle.book.specs.Demand3.{isAccepted}
 use Rattle.book.specs.Companions.{Sized}
 use Rattle.book.specs.declared.ledger.Book.{Book}
+use Rattle.book.specs.declared.kinds.Call.{Call}
 use Rattle.book.specs.declared.kinds.Filing.{Filing}
 use Rattle.book.proofs.FileFacts.{Fileable}
 use Rattle.book.proofs.MarkLaws.{marked-same, marked-other}
 use Rattle.book.proofs.SoundnessLaws.{Sound, sound-is}
+use Rattle.book.proofs.Balances.{Agree, sums-put}
+use Rattle.book.proofs.Lawful.{Lawful}
 
 -- a place is the one that was written, or it is not
 abbrev Here : ℕ → ℕ → ℕ → ℕ → Type 0
@@ -52,10 +59,10 @@ module _ (b : Book) (c f : ℕ) (z : ℤ) (sized : Sized b) (hc : c < cells) (hf
   markBefore = getD (b .marks) c 0
 
   abbrev marksAfter : List ℕ
-  marksAfter = set (b .marks) c (withMark markBefore f)
+  marksAfter = store (b .marks) c (withMark markBefore f)
 
   abbrev partsAfter : List ℤ
-  partsAfter = set (b .parts) (c * families + f) z
+  partsAfter = store (b .parts) (c * families + f) z
 
   part-here : (d g : ℕ) → Here c f d g → partAt partsAfter d g ≡ z
   part-here d g w = rw (w .0, w .1) (getD-set-same (b .parts) (c * families + f) z (pos 0) (omega arith))
@@ -107,7 +114,32 @@ filed-part b f h =
     part-bound (gramsOf (standardFor (f .set) (f .«vehicle_use») (f .year))) (f .fcl) (f .cf) (f .volume) (f .life)
     (g .0) (omega arith) (h .limits)
 
-pub file-sound : (b : Book) (f : Filing) → Sized b → Fileable b f → Sound (filed b f .book)
+file-sound : (b : Book) (f : Filing) → Sized b → Fileable b f → Sound (filingDone b f .book)
 file-sound b f z h =
-    stored-sound b (filingCell f) (f .family) (partFor f) z (omega (arith, h .maker, h .kind)) (h .family)
+    stored-sound b (filingCell f) (f .family) (partFor f) z (omega (arith, h .maker, h .set)) (h .family)
     (sound-is b (h .sound)) (filed-part b f h)
+
+file-agrees :
+    (b : Book) (a : Accounts) (f : Filing) → Agree b a → Fileable b f → Agree (filingDone b f .book) (move a (Call.File f))
+unfolding stored
+file-agrees b a f h g =
+    record {
+      sums =
+          sums-put (h .sums) (f .maker) (f .set) (f .family) (f .year) (partFor f) (g .maker) (g .set) (g .family)
+          (g .year) (sound-is b (g .sound) .unmarked _ _ (omega arith) (g .family) (g .unmarked));
+      lots = h .lots;
+      shortages = h .shortages;
+    }
+
+pub file-lawful : (b : Book) (f : Filing) → Fileable b f → Lawful b (Call.File f)
+unfolding done stored isAccepted
+file-lawful b f g =
+    record {
+      answered = refl;
+      onward = omega arith;
+      sized = stored-sized b (filingCell f) (f .family) (partFor f);
+      sound = λ z. file-sound b f z g;
+      agrees = λ a h. file-agrees b a f h g;
+      lot = λ k i o. refl;
+      shortage = λ k i o. refl;
+    }

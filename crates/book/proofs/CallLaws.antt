@@ -1,0 +1,45 @@
+-- What is said call by call, each once: what an accepted call keeps, and that no row of its own gives refusal 2.
+use mathlib.Core.Bool.{Bool, true, not, _&&_}
+use mathlib.Core.List.{List, [], _∷_}
+use mathlib.Core.Path.{_≡_, refl}
+use lib.Dec.{eqb}
+use Rattle.book.specs.Soundness.{sound}
+use Rattle.book.specs.Refusals.{Row, numberOf, firstRefusal}
+use Rattle.book.specs.Rules.{headRows, ownRows, table, fileRows, closeRows, tradeRows, applyRows, retireRows, CheckingOrder}
+use Rattle.book.specs.declared.ledger.Book.{Book}
+use Rattle.book.specs.declared.kinds.Call.{Call}
+use Rattle.book.specs.declared.answers.Verdict.the-variants.{Accepted}
+use Rattle.book.proofs.FileFacts.{fileable}
+use Rattle.book.proofs.CloseFacts.{closable}
+use Rattle.book.proofs.MoveFacts.{tradable, applicable, retirable}
+use Rattle.book.proofs.Lawful.{Lawful}
+use Rattle.book.proofs.FilingLaws.{file-lawful}
+use Rattle.book.proofs.ClosingLaws.{close-lawful}
+use Rattle.book.proofs.MovingLaws.{trade-lawful, apply-lawful, retire-lawful}
+
+pub lawful : (b : Book) (c : Call) → sound b ≡ true → firstRefusal (ownRows b c) ≡ Accepted → Lawful b c
+unfolding ownRows
+lawful b (Call.File f) s e = file-lawful b f (fileable b f s e)
+lawful b (Call.Close y) s e = close-lawful b y (closable b y s e)
+lawful b (Call.Trade t) s e = trade-lawful b t (tradable b t s e)
+lawful b (Call.Apply p) s e = apply-lawful b p (applicable b p s e)
+lawful b (Call.Retire p) s e = retire-lawful b p (retirable b p s e)
+
+-- no row gives 2, whatever the tests
+abbrev pub noTwo : List Row → Bool
+noTwo [] = true
+noTwo (x ∷ xs) = not (eqb (numberOf (x .why)) 2) && noTwo xs
+
+-- 2 is the head's alone
+pub own-not-two : (b : Book) (c : Call) → noTwo (ownRows b c) ≡ true
+unfolding ownRows fileRows closeRows tradeRows applyRows retireRows
+own-not-two b (Call.File f) = refl
+own-not-two b (Call.Close y) = refl
+own-not-two b (Call.Trade t) = refl
+own-not-two b (Call.Apply p) = refl
+own-not-two b (Call.Retire p) = refl
+
+pub checking-order : CheckingOrder
+unfolding table headRows ownRows fileRows closeRows tradeRows applyRows retireRows
+checking-order =
+    record { file = λ b f. refl; close = λ b y. refl; trade = λ b t. refl; apply = λ b p. refl; retire = λ b p. refl }

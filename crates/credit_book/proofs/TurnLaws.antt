@@ -14,7 +14,7 @@ use mir.Facts.{toZ-ofZ}
 use lib.ListN.{length, length-append}
 use lib.Seq.{length-take-le}
 use Rattle.text.specs.declared.desk.Desk.{Desk}
-use Rattle.text.specs.declared.desk.Fed.{Fed}
+use Rattle.text.specs.declared.desk.Reply.{Reply}
 use Rattle.text.specs.Desk.{Terminal, Serves, atDesk, openDesk, ends}
 use Rattle.text.specs.Listing.{listing}
 use Rattle.text.specs.Placing.{Stands}
@@ -23,11 +23,11 @@ use Rattle.credit_book.specs.declared.Wrote.{Wrote}
 use Rattle.credit_book.specs.declared.Said.{Said}
 use Rattle.credit_book.specs.declared.Turn.{Turn}
 use Rattle.io.specs.Counts.{clamped}
-use Rattle.credit_book.specs.Turns.{chunkRoom, firstBytes, Says, Turned, Reading, ClosedBy, turnFine, readsOn, mostTurns}
+use Rattle.credit_book.specs.Turns.{chunkRoom, firstBytes, Delivered, Turned, Reading, ClosedBy, turnFine, readsOn, mostTurns}
 
 -- a desk's answers, handed over
-pub says : {t : Terminal} {out out′ : List ℕ} {f : Fed} {d : Desk} {wrote : Wrote} → Serves t out f out′ → d ≡ f .desk → wrote .handed ≡ f .at → Says t out d wrote out′
-says s e h =
+pub delivered : {t : Terminal} {out out′ : List ℕ} {f : Reply} {d : Desk} {wrote : Wrote} → Serves t out f out′ → d ≡ f .desk → wrote .handed ≡ f .at → Delivered t out d wrote out′
+delivered s e h =
     record {
       desk-is = rw (e, s .book-is, s .held-is);
       stands = record { end-is = h ∙ s .at-is ∙ sym (zero-add _); out-is = s .out-is };
@@ -59,10 +59,10 @@ pub next :
     → SoFar out₀ out′ (r .desk) (turns + 1) more fine
 next {d = d} {before = before} {r = r} o h g s z f m =
     record {
-      long = same-long (s .says .stands) ∙ g .long;
+      long = same-long (s .delivered .stands) ∙ g .long;
       within = omega arith;
       chunks = g .chunks ++ (firstBytes (r .got) (s .buffer) ∷ []);
-      reading = rw (m, f, toZ-ofZ z, s .says .desk-is) (Reading.turn (firstBytes (r .got) (s .buffer)) (r .got) (r .interrupted) (r .wrote) (subst (λ (b : Bool). Reading (g .chunks) (atDesk d) b before) o (g .reading)) (as-long (r .got) (s .buffer) (s .long)) (s .says .stands .end-is ∙ zero-add _));
+      reading = rw (m, f, toZ-ofZ z, s .delivered .desk-is) (Reading.turn (firstBytes (r .got) (s .buffer)) (r .got) (r .interrupted) (r .wrote) (subst (λ (b : Bool). Reading (g .chunks) (atDesk d) b before) o (g .reading)) (as-long (r .got) (s .buffer) (s .long)) (s .delivered .stands .end-is ∙ zero-add _));
       counts = rw (length-append (g .chunks) (firstBytes (r .got) (s .buffer) ∷ [])) (omega (arith, g .counts));
     }
 
@@ -93,7 +93,7 @@ not-ended (negsuc k) fine n = refl
 pub hands : {text out out′ : List ℕ} {at handed : ℕ} → Stands text 0 out at out′ → handed ≡ at → Stands text 0 out handed out′
 hands s e = record { end-is = e ∙ s .end-is; out-is = s .out-is }
 
-module _ {t : Terminal} {out out′ : List ℕ} {said : Said} {listed : Wrote} (s : Says (ends t) out (said .desk) (said .wrote) out′) where
+module _ {t : Terminal} {out out′ : List ℕ} {said : Said} {listed : Wrote} (s : Delivered (ends t) out (said .desk) (said .wrote) out′) where
   pub lists : {out″ : List ℕ} → said .wrote .fine ≡ true → Stands (listing (said .desk .book)) 0 out′ (listed .handed) out″ → ClosedBy t (record { last = said .wrote; listed = listed })
   lists f l =
       record {

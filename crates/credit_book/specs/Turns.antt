@@ -30,7 +30,7 @@ abbrev pub mostTurns : ℕ
 mostTurns = 18446744073709551615
 
 -- a desk after what the terminal t said was written: it stands at the buffer's start, and all of it was handed over
-pub record Says (t : Terminal) (out : List ℕ) (d : Desk) (wrote : Wrote) (out′ : List ℕ) : Type 0 where
+pub record Delivered (t : Terminal) (out : List ℕ) (d : Desk) (wrote : Wrote) (out′ : List ℕ) : Type 0 where
   pub desk-is : atDesk d ≡ written t
   pub stands : Stands (t .said) 0 out (wrote .handed) out′
 
@@ -54,7 +54,7 @@ readsOn (negsuc k) fine = fine
 pub record Turned (d : Desk) (out : List ℕ) (r : Turn) (out′ : List ℕ) : Type 0 where
   pub buffer : List ℕ
   pub long : length buffer ≡ chunkRoom
-  pub says : Says (takesAll (atDesk d) (firstBytes (r .got) buffer)) out (r .desk) (r .wrote) out′
+  pub delivered : Delivered (takesAll (atDesk d) (firstBytes (r .got) buffer)) out (r .desk) (r .wrote) out′
 
 -- the chunks that were read, the terminal that took them, whether there may be more, and whether nothing failed:
 -- in each turn all that the terminal said was handed over, and each turn but the last left more to read

@@ -7,7 +7,7 @@ ghost use lib.ListN.{length};
 ghost use Rattle.text.specs.Desk.{atDesk, ends, takesAll};
 ghost use Rattle.text.specs.Listing.{listing};
 ghost use Rattle.text.specs.Placing.{Stands};
-ghost use Rattle.credit_book.specs.Turns.{ClosedBy, RanBy, ReadBy, Says, Turned, atEnd, chunkRoom, firstBytes, outRoom, readsOn, turnFine};
+ghost use Rattle.credit_book.specs.Turns.{ClosedBy, RanBy, ReadBy, Delivered, Turned, atEnd, chunkRoom, firstBytes, outRoom, readsOn, turnFine};
 use libc::STDIN_FILENO;
 use libc::STDOUT_FILENO;
 use text::answering::ANSWER_ROOM;
@@ -92,17 +92,17 @@ fn say(desk: Desk, at: usize, out: &[u8]) -> Said
 
 fn answer_chunk(desk: Desk, chunk: &[u8], out: &mut [u8]) -> Said
     requires { ⌜ (length (now chunk) ≤ chunkRoom) × (outRoom ≤ length (now out)) ⌝ }
-    ensures { λ r. ⌜ Says (takesAll (atDesk desk) (now (chunk .entry))) (now (out .entry)) (r .desk) (r .wrote) (now (out .exit)) ⌝ }
+    ensures { λ r. ⌜ Delivered (takesAll (atDesk desk) (now (chunk .entry))) (now (out .entry)) (r .desk) (r .wrote) (now (out .exit)) ⌝ }
 {
-    let fed = text::desk::feed(desk, chunk, out);
-    let after = fed.desk;
-    say(after, fed.at, out)
+    let reply = text::desk::take_in(desk, chunk, out);
+    let after = reply.desk;
+    say(after, reply.at, out)
 }
 
 // The answer to a last line that lacks its line feed.
 fn answer_last(desk: Desk, out: &mut [u8]) -> Said
     requires { ⌜ outRoom ≤ length (now out) ⌝ }
-    ensures { λ r. ⌜ Says (ends (atDesk desk)) (now (out .entry)) (r .desk) (r .wrote) (now (out .exit)) ⌝ }
+    ensures { λ r. ⌜ Delivered (ends (atDesk desk)) (now (out .entry)) (r .desk) (r .wrote) (now (out .exit)) ⌝ }
 {
     let ended = text::desk::last(desk, out);
     let after = ended.desk;
@@ -138,7 +138,7 @@ fn reads_on(got: isize, fine: bool) -> bool
 // Answers what a read left at the buffer's start, as many bytes as it answered, be it none.
 fn answer_read(desk: Desk, buffer: &[u8], got: isize, out: &mut [u8]) -> Said
     requires { ⌜ (length (now buffer) ≡ chunkRoom) × (outRoom ≤ length (now out)) ⌝ }
-    ensures { λ r. ⌜ Says (takesAll (atDesk desk) (firstBytes got (now (buffer .entry)))) (now (out .entry)) (r .desk) (r .wrote) (now (out .exit)) ⌝ }
+    ensures { λ r. ⌜ Delivered (takesAll (atDesk desk) (firstBytes got (now (buffer .entry)))) (now (out .entry)) (r .desk) (r .wrote) (now (out .exit)) ⌝ }
 {
     let n = io::count(got, buffer);
     answer_chunk(desk, &buffer[..n], out)

@@ -63,22 +63,22 @@ pub record Demands (input : List ℕ) : Type 0 where
   pub reconciled : (k : Key) → In k → Reconciled (finalBook input) (accountsOf (history freshBook (calls input))) k
 
 -- n Mg are what the accounts leave in a lot of the book, as a sum, so that no difference below zero can hide
-abbrev pub Lot : Accounts → Key → ℕ → Type 0
-Lot a k n = In k × (n + a .sold k + a .applied k + a .retired k ≡ a .earned k + a .bought k)
+abbrev pub LeftInLot : Accounts → Key → ℕ → Type 0
+LeftInLot a k n = In k × (n + a .sold k + a .applied k + a .retired k ≡ a .earned k + a .bought k)
 
-abbrev pub Shortage : Accounts → Key → ℕ → Type 0
-Shortage a k n = In k × (n + a .covered k ≡ a .shortfall k)
+abbrev pub LeftShort : Accounts → Key → ℕ → Type 0
+LeftShort a k n = In k × (n + a .covered k ≡ a .shortfall k)
 
 -- what a line of the statement says: its Mg are above 0, and they are the accounts' balance
 abbrev pub Says : Accounts → Item → Type 0
-Says a (lot k n) = (0 < n) × Lot a k n
-Says a (short k n) = (0 < n) × Shortage a k n
+Says a (lot k n) = (0 < n) × LeftInLot a k n
+Says a (short k n) = (0 < n) × LeftShort a k n
 
 -- what the answer to a call says by its Mg: they are what the accounts leave in the lot that the call pays from
 abbrev pub Leaves : Accounts → Call → ℕ → Type 0
-Leaves a (Call.Trade t) n = Lot a (sellerLot t) n
-Leaves a (Call.Apply p) n = Lot a (appliedLot p) n
-Leaves a (Call.Retire p) n = Lot a (retiredLot p) n
+Leaves a (Call.Trade t) n = LeftInLot a (sellerLot t) n
+Leaves a (Call.Apply p) n = LeftInLot a (appliedLot p) n
+Leaves a (Call.Retire p) n = LeftInLot a (retiredLot p) n
 Leaves a (Call.File f) n = ⊥
 Leaves a (Call.Close y) n = ⊥
 

@@ -88,10 +88,10 @@ itemFigures (short k n) = k .maker ∷ k .kind ∷ k .year ∷ n ∷ []
 unfoldable pub itemLine : ℕ → Item → List ℕ
 itemLine Y x = filled (itemPattern Y x) (itemFigures x)
 
-unfoldable pub printed : ℕ → List Item → List ℕ
-printed Y [] = []
-printed Y (x ∷ xs) = itemLine Y x ++ lineFeed ∷ printed Y xs
+unfoldable pub itemLines : ℕ → List Item → List ℕ
+itemLines Y [] = []
+itemLines Y (x ∷ xs) = itemLine Y x ++ lineFeed ∷ itemLines Y xs
 
 -- what postings come to, printed
 abbrev pub statement : List Call → List ℕ
-statement ps = printed (yearBy ps) (items (accountsBy ps))
+statement ps = itemLines (yearBy ps) (items (accountsBy ps))

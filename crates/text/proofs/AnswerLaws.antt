@@ -16,7 +16,7 @@ use Rattle.book.specs.declared.answers.Refusal.{Refusal}
 use Rattle.book.specs.Refusals.{numberOf, refusalIn, valuesIn}
 use Rattle.book.proofs.RefusalLaws.{number-above-0}
 use Rattle.text.specs.Ascii.{ascii}
-use Rattle.text.specs.Pattern.{filled, places}
+use Rattle.text.specs.Pattern.{filled, hashes}
 use Rattle.text.specs.Answers.{saidFor, textOf, answerRoom}
 use Rattle.text.proofs.FillLaws.{filled-length}
 
@@ -58,11 +58,11 @@ module _ (m k : ℕ) where
   minus (negsuc n) e h = rw (e, filed-minus n k)
 
 -- ---- no answer's line is longer than its room
-short : (p ns : List ℕ) → T (leb (length p + 20 * places p) answerRoom) → length (filled p ns) ≤ answerRoom
-short p ns t = omega (arith, filled-length p ns, leb→le (length p + 20 * places p) answerRoom t)
+short : (p ns : List ℕ) → T (leb (length p + 20 * hashes p) answerRoom) → length (filled p ns) ≤ answerRoom
+short p ns t = omega (arith, filled-length p ns, leb→le (length p + 20 * hashes p) answerRoom t)
 
 pub text-length : (a : Answer) → length (textOf a) ≤ answerRoom
-unfolding places
+unfolding hashes
 text-length (Answer.Refused r) = rw refused-text (short _ _ tt)
 text-length (Answer.Filed p k) = go (p .0)
   where

@@ -11,7 +11,7 @@ use borrow.Author.Tests.{le-ltb, ltb-false}
 use Rattle.figuring.proofs.BoolLaws.{both}
 use Rattle.book.specs.declared.kinds.Call.{Call}
 use Rattle.text.specs.declared.lines.Line.{Line}
-use Rattle.text.specs.Pattern.{fit, filled, places, figures, figuresOf, padded}
+use Rattle.text.specs.Pattern.{fit, filled, hashes, figures, figuresOf, padded}
 use Rattle.text.specs.Line.{Form, file, close, trade, apply, retire, forms, firstForm, lineIf, lineAt, lineOf, longestLine, mostDigits}
 use Rattle.text.specs.Rendered.{formOf, figuresIn, rendered, Small, IsText, NoText, Reads}
 use Rattle.text.specs.Answers.{answerTo, postedLine, ByText}
@@ -31,9 +31,9 @@ listed (suc k) (n ∷ ns) h = ap (λ (l : List ℕ). n ∷ l) (listed k ns (omeg
 -- ---- what has to be shown of each form: the call that it makes of numbers is of that form, with those numbers
 pub record Again (f : Form) : Type 0 where
   pub form-is : (ns : List ℕ) → formOf (f .call ns) ≡ f
-  pub figures-are : (ns : List ℕ) → length ns ≡ places (f .pattern) → figuresIn (f .call (padded ns)) ≡ ns
+  pub figures-are : (ns : List ℕ) → length ns ≡ hashes (f .pattern) → figuresIn (f .call (padded ns)) ≡ ns
 
-again-by : (f : Form) (k : ℕ) → places (f .pattern) ≡ k → ((ns : List ℕ) → formOf (f .call ns) ≡ f) → ((ns : List ℕ) → figuresIn (f .call (padded (firsts k ns))) ≡ firsts k ns) → Again f
+again-by : (f : Form) (k : ℕ) → hashes (f .pattern) ≡ k → ((ns : List ℕ) → formOf (f .call ns) ≡ f) → ((ns : List ℕ) → figuresIn (f .call (padded (firsts k ns))) ≡ firsts k ns) → Again f
 again-by f k e g h =
     record {
       form-is = g;
@@ -41,23 +41,23 @@ again-by f k e g h =
     }
 
 file-again : Again file
-unfolding places
+unfolding hashes
 file-again = again-by file 9 refl (λ ns. refl) (λ ns. refl)
 
 close-again : Again close
-unfolding places
+unfolding hashes
 close-again = again-by close 1 refl (λ ns. refl) (λ ns. refl)
 
 trade-again : Again trade
-unfolding places
+unfolding hashes
 trade-again = again-by trade 5 refl (λ ns. refl) (λ ns. refl)
 
 apply-again : Again apply
-unfolding places
+unfolding hashes
 apply-again = again-by apply 5 refl (λ ns. refl) (λ ns. refl)
 
 retire-again : Again retire
-unfolding places
+unfolding hashes
 retire-again = again-by retire 4 refl (λ ns. refl) (λ ns. refl)
 
 -- ---- an accepted line is its call, rendered
@@ -119,7 +119,7 @@ read-back :
     (gs : List Form) (f : Form) (fs : List Form) (ns : List ℕ)
     → allApart gs (f .pattern) ≡ true
     → separate (f .pattern) ≡ true
-    → length ns ≡ places (f .pattern)
+    → length ns ≡ hashes (f .pattern)
     → Small mostDigits ns
     → length (filled (f .pattern) ns) ≤ longestLine
     → forms ≡ gs ++ f ∷ fs
@@ -130,7 +130,7 @@ read-back gs f fs ns a p l h n e =
     (ap (λ (x : List Form). firstForm x (filled (f .pattern) ns)) e ∙ chosen gs f fs ns a (fills-fit mostDigits (lit≤ tt) (lit≤ tt) (f .pattern) ns p l h))
 
 pub rendered-form : (c : Call) → Small mostDigits (figuresIn c) → length (rendered c) ≤ longestLine → lineOf (rendered c) ≡ Line.Form c
-unfolding places separate apart allApart
+unfolding hashes separate apart allApart
 rendered-form (Call.File x) h l = read-back [] file (close ∷ trade ∷ apply ∷ retire ∷ []) (figuresIn (Call.File x)) refl refl refl h l refl
 rendered-form (Call.Close x) h l = read-back (file ∷ []) close (trade ∷ apply ∷ retire ∷ []) (figuresIn (Call.Close x)) refl refl refl h l refl
 rendered-form (Call.Trade x) h l = read-back (file ∷ close ∷ []) trade (apply ∷ retire ∷ []) (figuresIn (Call.Trade x)) refl refl refl h l refl

@@ -7,7 +7,7 @@ pub mod CanonLaws
 pub mod RenderLaws
 pub mod FormLaws
 pub mod AnswerLaws
-pub mod FeedLaws
+pub mod DeskLaws
 pub mod ServeLaws
 pub mod SessionLaws
 pub mod ListingLaws

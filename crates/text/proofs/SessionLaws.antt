@@ -1,4 +1,4 @@
--- A terminal that is fed an input byte by byte, in whatever chunks, answers the input's lines.
+-- A terminal that takes an input byte by byte, in whatever chunks, answers the input's lines.
 use Prim.Native.Nat.{ℕ, _≤_}
 use native.Mathlib.Omega.{arith}
 use native.Mathlib.Decide.{decLe}
@@ -14,7 +14,7 @@ use Rattle.book.specs.declared.ledger.Book.{Book}
 use Rattle.text.specs.Line.{lineAt, lineOf, longestLine}
 use Rattle.text.specs.Answers.{answerTo, textOf}
 use Rattle.text.specs.Desk.{Terminal, takes, takesAll, ends, answering, holding, terminalIf, mostHeld, lineFeed}
-use Rattle.text.specs.Lines.{linesFrom, lastLine, OneLine, Lines, answersTo, bookAfter}
+use Rattle.text.specs.Lines.{linesFrom, lastLine, OneLine, Lines, answersTo, bookAfterLines}
 use Rattle.text.specs.Listing.{listing}
 use Rattle.text.specs.Program.{terminal, opened, written, inChunks, joined, AnyChunks}
 
@@ -56,11 +56,11 @@ cut-more l b = go (decLe (length l) longestLine)
 -- ---- a whole input
 -- a terminal that had said `said` has answered some lines, from the book b
 pub record Came (t : Terminal) (b : Book) (said : List ℕ) (ls : List (List ℕ)) : Type 0 where
-  pub book-is : t .book ≡ bookAfter b ls
+  pub book-is : t .book ≡ bookAfterLines b ls
   pub said-is : t .said ≡ said ++ answersTo b ls
 
 comes : (b : Book) (said l s : List ℕ) → Came (ends (takesAll (record { book = b; held = cut l; said = said }) s)) b said (linesFrom l s)
-unfolding takesAll linesFrom answersTo bookAfter
+unfolding takesAll linesFrom answersTo bookAfterLines
 comes b said [] [] = record { book-is = refl; said-is = sym (append-nil said) }
 comes b said (x ∷ l) [] =
     rw (lt-ltb 0 (length (cut (x ∷ l))) (omega arith), cut-answer b (x ∷ l)) (record {

@@ -7,19 +7,19 @@ use mathlib.Core.Path.{_≡_, sym, ap, _∙_}
 use mathlib.Core.List.{List, [], _∷_, _++_, append-nil, append-assoc}
 use lib.Dec.{eqb, leb, ltb}
 use lib.ListN.{length, take, drop, length-append, length-drop, drop-of-length-le}
-use lib.Seq.{sets, sets-eq, take-all, drop-drop}
+use lib.Seq.{sets as overwritten, sets-eq, take-all, drop-drop}
 use borrow.Author.Tests.{le-leb}
 use borrow.Rule.Slice.PartMut.{midOf, postOf, putMid, post-is}
 use Rattle.text.specs.declared.answering.Step.{Step}
 use Rattle.text.specs.declared.desk.Desk.{Desk}
-use Rattle.text.specs.declared.desk.Fed.{Fed}
+use Rattle.text.specs.declared.desk.Reply.{Reply}
 use Rattle.text.specs.Placing.{Stands}
 use Rattle.text.specs.Answers.{answerTo, answerRoom}
-use Rattle.text.specs.Desk.{Terminal, FedBy, Serves, answering, holding, takes, takesAll, ends, terminalIf, atDesk, openDesk, lineFeed}
+use Rattle.text.specs.Desk.{Terminal, RepliedBy, Serves, answering, holding, takes, takesAll, ends, terminalIf, atDesk, openDesk, lineFeed}
 use Rattle.text.specs.Listing.{listing, listingRoom}
 use Rattle.text.specs.Program.{terminal, opened, written, inChunks, joined, sessionRoom}
 use Rattle.text.proofs.AnswerLaws.{text-length}
-use Rattle.text.proofs.FeedLaws.{served}
+use Rattle.text.proofs.DeskLaws.{served}
 use Rattle.text.proofs.SessionLaws.{any-chunks}
 use Rattle.text.proofs.StoreLaws.{after-text, as-text, same-long}
 
@@ -41,7 +41,7 @@ pub in-part : {text l part : List ℕ} {a r : ℕ} → a ≤ length l → r ≤ 
 in-part {text} {l} {part} {a} {r} h k s =
     let n : a + length text ≤ length l = omega (arith, s .end-is, same-long s, lent-long a l) in
     let p : postOf a (length l - a) l ≡ [] = post-is a (length l) l h ∙ drop-of-length-le l {i = length l} (omega arith) in
-    let q : sets (drop a l) 0 text ≡ text ++ drop (0 + length text) (drop a l) = sets-eq text (drop a l) 0 (rw length-drop (omega arith)) in
+    let q : overwritten (drop a l) 0 text ≡ text ++ drop (0 + length text) (drop a l) = sets-eq text (drop a l) 0 (rw length-drop (omega arith)) in
     let w : Stands text a l (a + r) (putMid a (length l - a) l part) =
     record {
       end-is = omega (arith, s .end-is);
@@ -74,9 +74,9 @@ one-chunk : (input : List ℕ) → takesAll opened input .said ++ (ends (written
 unfolding inChunks joined
 one-chunk input = any-chunks (input ∷ []) ∙ ap terminal (append-nil input)
 
-module _ (input : List ℕ) {out out₁ : List ℕ} {d : Desk} {f : Fed} (room : sessionRoom (length input) ≤ length out) (begun : d ≡ openDesk) (fed : FedBy (leb (length input) (length out / answerRoom)) d (takesAll (atDesk d) input) out f out₁) where
+module _ (input : List ℕ) {out out₁ : List ℕ} {d : Desk} {f : Reply} (room : sessionRoom (length input) ≤ length out) (begun : d ≡ openDesk) (replied : RepliedBy (leb (length input) (length out / answerRoom)) d (takesAll (atDesk d) input) out f out₁) where
   answers : Serves (takesAll opened input) out f out₁
-  answers = served (le-leb (length input) (length out / answerRoom) (omega arith)) (rw begun at fed)
+  answers = served (le-leb (length input) (length out / answerRoom) (omega arith)) (rw begun at replied)
 
   stands : Stands (takesAll opened input .said) 0 out (f .at) out₁
   stands = record { end-is = answers .at-is ∙ omega arith; out-is = answers .out-is }

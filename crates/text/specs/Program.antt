@@ -5,12 +5,12 @@ use mathlib.Core.List.{List, [], _∷_, _++_}
 use Rattle.book.specs.Postings.{freshBook}
 use Rattle.text.specs.Answers.{answerRoom}
 use Rattle.text.specs.Desk.{Terminal, takesAll, ends}
-use Rattle.text.specs.Lines.{linesOf, answersTo, bookAfter}
+use Rattle.text.specs.Lines.{linesOf, answersTo, bookAfterLines}
 use Rattle.text.specs.Listing.{listing, listingRoom}
 
 -- "The program starts from a fresh book, reads standard input, answers each line .., then lists the cells"
 unfoldable pub terminal : List ℕ → List ℕ
-terminal input = answersTo freshBook (linesOf input) ++ listing (bookAfter freshBook (linesOf input))
+terminal input = answersTo freshBook (linesOf input) ++ listing (bookAfterLines freshBook (linesOf input))
 
 -- room for what an input of n bytes can be answered: for each byte and for one line more an answer's line, and any book's listing
 abbrev pub sessionRoom : ℕ → ℕ

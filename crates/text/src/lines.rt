@@ -1,7 +1,7 @@
 // The five forms of document 01: a line to a call.
 ghost use mathlib.Core.Path.{_≡_};
 ghost use Rattle.text.specs.Line.{lineAt, firstForm, forms, file, close, trade, apply, retire};
-use crate::patterns::MOST_PLACES;
+use crate::patterns::MOST_FIGURES;
 use crate::patterns::fitted;
 use book::kinds::Application;
 use book::kinds::Call;
@@ -20,7 +20,7 @@ pub enum Line {
     NoForm,
 }
 
-fn file_of(n: [u64; MOST_PLACES]) -> Call
+fn file_of(n: [u64; MOST_FIGURES]) -> Call
     ensures { λ r. ⌜ r ≡ file .call n ⌝ }
 {
     Call::File(Filing {
@@ -36,13 +36,13 @@ fn file_of(n: [u64; MOST_PLACES]) -> Call
     })
 }
 
-fn close_of(n: [u64; MOST_PLACES]) -> Call
+fn close_of(n: [u64; MOST_FIGURES]) -> Call
     ensures { λ r. ⌜ r ≡ close .call n ⌝ }
 {
     Call::Close(n[0])
 }
 
-fn trade_of(n: [u64; MOST_PLACES]) -> Call
+fn trade_of(n: [u64; MOST_FIGURES]) -> Call
     ensures { λ r. ⌜ r ≡ trade .call n ⌝ }
 {
     Call::Trade(Trade {
@@ -54,7 +54,7 @@ fn trade_of(n: [u64; MOST_PLACES]) -> Call
     })
 }
 
-fn apply_of(n: [u64; MOST_PLACES]) -> Call
+fn apply_of(n: [u64; MOST_FIGURES]) -> Call
     ensures { λ r. ⌜ r ≡ apply .call n ⌝ }
 {
     Call::Apply(Application {
@@ -66,7 +66,7 @@ fn apply_of(n: [u64; MOST_PLACES]) -> Call
     })
 }
 
-fn retire_of(n: [u64; MOST_PLACES]) -> Call
+fn retire_of(n: [u64; MOST_FIGURES]) -> Call
     ensures { λ r. ⌜ r ≡ retire .call n ⌝ }
 {
     Call::Retire(Retirement {

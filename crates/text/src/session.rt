@@ -10,9 +10,9 @@ ghost use Rattle.text.specs.Program.{sessionRoom, terminal};
 use crate::answering::ANSWER_ROOM;
 use crate::answering::Step;
 use crate::desk::Desk;
-use crate::desk::feed;
 use crate::desk::last;
 use crate::desk::open_desk;
+use crate::desk::take_in;
 use crate::listing::LISTING_ROOM;
 use crate::listing::put_listing;
 use crate::placing::Placed;
@@ -40,9 +40,9 @@ fn put_session(input: &[u8], out: &mut [u8]) -> usize
     ensures { λ r. ⌜ Stands (terminal (now (input .entry))) 0 (now (out .entry)) r (now (out .exit)) ⌝ }
     ensures { λ r. ⌜ r ≤ length (now (out .exit)) ⌝ }
 {
-    let fed = feed(open_desk(), input, out);
-    let desk = fed.desk;
-    let ended = last_at(out, fed.at, desk);
+    let reply = take_in(open_desk(), input, out);
+    let desk = reply.desk;
+    let ended = last_at(out, reply.at, desk);
     let book = ended.book;
     listing_at(out, ended.at, book)
 }

@@ -5,7 +5,7 @@ use native.Mathlib.Omega.{arith}
 use mathlib.Core.Path.{_≡_, ap, _∙_}
 use mathlib.Core.List.{[], _∷_}
 use Rattle.figuring.proofs.SignedLaws.{read-below}
-use Rattle.text.specs.Pattern.{places}
+use Rattle.text.specs.Pattern.{hashes}
 use Rattle.text.proofs.StoreLaws.{as-text}
 use Rattle.text.proofs.FillLaws.{room-for, filled-zeros}
 use Rattle.text.proofs.AnswerLaws.{minus, plus}
@@ -20,14 +20,14 @@ slice-aggregate-fill : tie.Need-slice-aggregate-fill
 slice-aggregate-fill c = search needs
 
 fill-requires : tie.Need-fill-requires
-unfolding places
+unfolding hashes
 fill-requires c κs = (lit≤ tt, room-for _ _ 64 _ _ (omega arith) tt)
 
 slice-aggregate-fill-2 : tie.Need-slice-aggregate-fill-2
 slice-aggregate-fill-2 c = search needs
 
 fill-requires-2 : tie.Need-fill-requires-2
-unfolding places
+unfolding hashes
 fill-requires-2 c κs = (lit≤ tt, room-for _ _ 64 _ _ (omega arith) tt)
 
 same-length : tie.Need-same-length

@@ -4,7 +4,7 @@ use mir.Facts.{toZ-ofZ}
 use native.Mathlib.Omega.{arith}
 use mathlib.Core.List.{[], _∷_}
 use lib.Dec.{lit≤}
-use Rattle.text.specs.Pattern.{places}
+use Rattle.text.specs.Pattern.{hashes}
 use Rattle.text.proofs.StoreLaws.{as-text}
 use Rattle.text.proofs.FillLaws.{room-for, filled-zeros}
 use Rattle.text.proofs.AnswerLaws.{refused-text, closed-text, left-text}
@@ -22,7 +22,7 @@ refusal-number-requires : tie.Need-refusal-number-requires
 refusal-number-requires c κs = search needs
 
 fill-requires : tie.Need-fill-requires
-unfolding places
+unfolding hashes
 fill-requires c κs = (lit≤ tt, room-for _ _ 64 _ _ (omega arith) tt)
 
 enum-known-answer-2 : tie.Need-enum-known-answer-2
@@ -38,7 +38,7 @@ slice-aggregate-fill-2 : tie.Need-slice-aggregate-fill-2
 slice-aggregate-fill-2 c = search needs
 
 fill-requires-2 : tie.Need-fill-requires-2
-unfolding places
+unfolding hashes
 fill-requires-2 c κs = (lit≤ tt, room-for _ _ 64 _ _ (omega arith) tt)
 
 enum-known-answer-4 : tie.Need-enum-known-answer-4
@@ -48,7 +48,7 @@ slice-aggregate-fill-3 : tie.Need-slice-aggregate-fill-3
 slice-aggregate-fill-3 c = search needs
 
 fill-requires-3 : tie.Need-fill-requires-3
-unfolding places
+unfolding hashes
 fill-requires-3 c κs = (lit≤ tt, room-for _ _ 64 _ _ (omega arith) tt)
 
 same-length : tie.Need-same-length

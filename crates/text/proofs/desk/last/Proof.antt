@@ -1,11 +1,11 @@
 use borrow.Author.Tests.{le-leb, lt-leb}
-use Rattle.text.proofs.FeedLaws.{unfed, with-room}
+use Rattle.text.proofs.DeskLaws.{without-room, with-room}
 use borrow.Author.Needs.{needs}
 use Rattle.text.proofs.desk.last.Statement.{statement}
 use Rattle.text.proofs.desk.last.Tie as tie
 
 returns : tie.Need-returns
-returns c = unfed (lt-leb _ _ (c .if1 .taken))
+returns c = without-room (lt-leb _ _ (c .if1 .taken))
 
 take-last-requires : tie.Need-take-last-requires
 take-last-requires c κs = search needs

@@ -3,7 +3,7 @@ use native.Mathlib.Omega.{arith}
 use borrow.Author.Needs.{needs}
 use lib.ListN.{length}
 use Rattle.text.specs.Desk.{mostHeld}
-use Rattle.text.proofs.FeedLaws.{took}
+use Rattle.text.proofs.DeskLaws.{took}
 use Rattle.text.proofs.desk.take_chunk.Statement.{statement}
 use Rattle.text.proofs.desk.take_chunk.Tie as tie
 

@@ -3,7 +3,7 @@ use native.Mathlib.Omega.{arith}
 use lib.ListN.{length}
 use lib.Seq.{length-take-le}
 use Rattle.text.specs.Desk.{mostHeld}
-use Rattle.text.proofs.FeedLaws.{no-last, a-last}
+use Rattle.text.proofs.DeskLaws.{no-last, a-last}
 use borrow.Author.Needs.{needs}
 use Rattle.text.proofs.desk.take_last.Statement.{statement}
 use Rattle.text.proofs.desk.take_last.Tie as tie

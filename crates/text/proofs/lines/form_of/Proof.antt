@@ -2,7 +2,7 @@ use mathlib.Core.Path.{_≡_, sym, _∙_}
 use mathlib.Core.List.{[], _∷_}
 use lib.Dec.{lit≤}
 use Rattle.text.specs.Line.{firstForm, forms, close, trade, apply, retire}
-use Rattle.text.specs.Pattern.{places}
+use Rattle.text.specs.Pattern.{hashes}
 use borrow.Author.Needs.{needs}
 use Rattle.text.proofs.lines.form_of.Statement.{statement}
 use Rattle.text.proofs.lines.form_of.Tie as tie
@@ -27,7 +27,7 @@ slice-aggregate-fitted : tie.Need-slice-aggregate-fitted
 slice-aggregate-fitted c = search needs
 
 fitted-requires : tie.Need-fitted-requires
-unfolding places
+unfolding hashes
 fitted-requires c κs = (lit≤ tt, lit≤ tt)
 
 file-of-requires : tie.Need-file-of-requires
@@ -40,7 +40,7 @@ slice-aggregate-fitted-2 : tie.Need-slice-aggregate-fitted-2
 slice-aggregate-fitted-2 c = search needs
 
 fitted-requires-2 : tie.Need-fitted-requires-2
-unfolding places
+unfolding hashes
 fitted-requires-2 c κs = (lit≤ tt, lit≤ tt)
 
 close-of-requires : tie.Need-close-of-requires
@@ -53,7 +53,7 @@ slice-aggregate-fitted-3 : tie.Need-slice-aggregate-fitted-3
 slice-aggregate-fitted-3 c = search needs
 
 fitted-requires-3 : tie.Need-fitted-requires-3
-unfolding places
+unfolding hashes
 fitted-requires-3 c κs = (lit≤ tt, lit≤ tt)
 
 trade-of-requires : tie.Need-trade-of-requires
@@ -66,7 +66,7 @@ slice-aggregate-fitted-4 : tie.Need-slice-aggregate-fitted-4
 slice-aggregate-fitted-4 c = search needs
 
 fitted-requires-4 : tie.Need-fitted-requires-4
-unfolding places
+unfolding hashes
 fitted-requires-4 c κs = (lit≤ tt, lit≤ tt)
 
 apply-of-requires : tie.Need-apply-of-requires
@@ -79,7 +79,7 @@ slice-aggregate-fitted-5 : tie.Need-slice-aggregate-fitted-5
 slice-aggregate-fitted-5 c = search needs
 
 fitted-requires-5 : tie.Need-fitted-requires-5
-unfolding places
+unfolding hashes
 fitted-requires-5 c κs = (lit≤ tt, lit≤ tt)
 
 retire-of-requires : tie.Need-retire-of-requires

@@ -2,7 +2,7 @@ use native.Mathlib.Omega.{arith}
 use mathlib.Core.Path.{refl}
 use mathlib.Core.List.{[], _∷_}
 use lib.Dec.{lit≤}
-use Rattle.text.specs.Pattern.{places}
+use Rattle.text.specs.Pattern.{hashes}
 use Rattle.text.proofs.FillLaws.{filled-zeros}
 use Rattle.text.proofs.StoreLaws.{as-text}
 use Rattle.text.proofs.ListingLaws.{entry-room}
@@ -17,7 +17,7 @@ slice-aggregate-fill : tie.Need-slice-aggregate-fill
 slice-aggregate-fill c = search needs
 
 fill-requires : tie.Need-fill-requires
-unfolding places
+unfolding hashes
 fill-requires c κs = (lit≤ tt, entry-room _ _ _ _ _ (omega arith) (omega arith) (omega arith) tt _ _ (omega arith))
 
 enum-known-entry-2 : tie.Need-enum-known-entry-2
@@ -27,7 +27,7 @@ slice-aggregate-fill-2 : tie.Need-slice-aggregate-fill-2
 slice-aggregate-fill-2 c = search needs
 
 fill-requires-2 : tie.Need-fill-requires-2
-unfolding places
+unfolding hashes
 fill-requires-2 c κs = (lit≤ tt, entry-room _ _ _ _ _ (omega arith) (omega arith) (omega arith) tt _ _ (omega arith))
 
 enum-told : tie.Need-enum-told

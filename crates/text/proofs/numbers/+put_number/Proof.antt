@@ -5,7 +5,7 @@ use mathlib.Core.Path.{refl, ap}
 use lib.ListN.{length, length-set}
 use lib.Seq.{length-sets}
 use Rattle.text.proofs.NumeralLaws.{numeral-small, numeral-more, more-length}
-use Rattle.text.proofs.StoreLaws.{sets-one}
+use Rattle.text.proofs.StoreLaws.{overwritten-one}
 use borrow.Fn.Kinds.{In}
 use borrow.Fn.PlainCycle.{Measures, is, falls, and}
 use Rattle.text.proofs.numbers.put_number.Reads as put-number
@@ -111,7 +111,7 @@ put-number-returns-2 t c =
     let q = numeral-more (c .before .before .before .before .before .before .args .n) (c .before .before .before .before .if1 .left) (c .before .before .before .before .before .before .fits .n .fits) in
     record {
       end-is = omega (arith, more-length (c .before .before .before .before .before .before .args .n) (c .before .before .before .before .if1 .left) (c .before .before .before .before .before .before .fits .n .fits));
-      out-is = rw (q, c .before .before .put-number .ensures .out-is, c .before .before .put-number .ensures .end-is) (sets-one (numeral (c .before .before .before .before .before .before .args .n / 10)) (c .before .before .before .before .before .before .args .out .now) (c .before .before .before .before .before .before .args .at) (48 + c .before .before .before .before .before .before .args .n % 10));
+      out-is = rw (q, c .before .before .put-number .ensures .out-is, c .before .before .put-number .ensures .end-is) (overwritten-one (numeral (c .before .before .before .before .before .before .args .n / 10)) (c .before .before .before .before .before .before .args .out .now) (c .before .before .before .before .before .before .args .at) (48 + c .before .before .before .before .before .before .args .n % 10));
     }
 
 pub +put-number-spec : {M : Type 1} → statement M

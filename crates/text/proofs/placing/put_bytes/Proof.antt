@@ -3,13 +3,13 @@ use mathlib.Core.Path.{_≡_, refl, _∙_}
 use native.Mathlib.Omega.{arith}
 use borrow.Author.Tests.{le-leb, lt-leb}
 use lib.ListN.{length, take}
-use lib.Seq.{sets, length-sets, take-all}
+use lib.Seq.{sets as overwritten, length-sets, take-all}
 use Rattle.text.proofs.StoreLaws.{copied-more, put-none, put-whole}
 use Rattle.text.proofs.placing.put_bytes.Statement.{statement}
 use Rattle.text.proofs.placing.put_bytes.Tie as tie
 
 abbrev Inv-loop : tie.InvT-loop
-Inv-loop out₀ at text i₀ out i = (i ≤ length text) × (out ≡ sets out₀ at (take i text))
+Inv-loop out₀ at text i₀ out i = (i ≤ length text) × (out ≡ overwritten out₀ at (take i text))
 
 abbrev μ-loop : tie.MeasureT-loop
 μ-loop out₀ at text i₀ out i = length text - i

@@ -3,7 +3,7 @@ use native.Mathlib.Nat.{zero-add}
 use native.Mathlib.Omega.{arith}
 use mathlib.Core.Path.{sym, _∙_}
 use Rattle.text.specs.Answers.{answerRoom}
-use Rattle.text.proofs.FeedLaws.{served}
+use Rattle.text.proofs.DeskLaws.{served}
 use Rattle.text.proofs.WholeLaws.{lent-room, in-part}
 use borrow.Author.Needs.{needs}
 use Rattle.text.proofs.session.last_at.Statement.{statement}

@@ -5,6 +5,7 @@ pub mod NumeralLaws
 pub mod FillLaws
 pub mod CanonLaws
 pub mod RenderLaws
+pub mod FirstFormLaws
 pub mod FormLaws
 pub mod AnswerLaws
 pub mod DeskLaws

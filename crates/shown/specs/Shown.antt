@@ -1,5 +1,5 @@
--- Four claims about every input, any bytes whatever, of the terminal that text/specs/Program defines. src/claims.rt holds each to
--- its proof.
+-- Four claims about every input, any bytes whatever, of the terminal that text/specs/Program defines. src/claims.rt
+-- holds each to its proof.
 use Prim.Native.Nat.{ℕ, suc, _+_, _<_, _≤_}
 use mathlib.Core.Bool.{true}
 use mathlib.Core.List.{List, [], _∷_, _++_, map}
@@ -25,7 +25,8 @@ use Rattle.text.specs.Lines.{linesOf, answersTo}
 use Rattle.text.specs.Listing.{listing}
 use Rattle.text.specs.Program.{terminal}
 use Rattle.shown.specs.Calls.{calls, answers, answersOf, texts, postings, finalBook}
-use Rattle.shown.specs.Statement.{accountsBy, yearBy, Item, lot, short, items, rank, itemPattern, itemFigures, itemLine, statement}
+use Rattle.shown.specs.Statement.{accountsBy, yearBy, Item, lot, short, items, rank}
+use Rattle.shown.specs.Statement.{itemPattern, itemFigures, itemLine, statement}
 use Rattle.shown.specs.Journal.{journalOf, journal}
 
 -- what a call is answered after some calls
@@ -88,7 +89,7 @@ pub record Among (x : Item) (xs : List Item) : Type 0 where
   pub after : List Item
   pub here : xs ≡ before ++ x ∷ after
 
--- a posting that brought Mg into a line: the close of its year, which earned or lacked some there, or for a lot a trade to it
+-- a posting that brought Mg into a line: the close of its year, which earned or lacked some there; for a lot a trade
 abbrev pub Brings : Accounts → Item → Call → Type 0
 Brings a (lot k n) (Call.Close y) = (y ≡ k .year) × (0 < a .earned k)
 Brings a (lot k n) (Call.Trade t) = (buyerLot t ≡ k) × (0 < t .mg)
@@ -114,15 +115,17 @@ abbrev pub Rising : ℕ → List Item → Type 0
 Rising n [] = Unit {0}
 Rising n (x ∷ xs) = (n ≤ rank x) × Rising (suc (rank x)) xs
 
--- what the statement of postings tells, by their accounts: a line stands in it exactly where they say so, so that each line
--- shown has its balance, and each balance above 0 is shown; and each line has a posting behind it
+-- what the statement of postings tells, by their accounts: a line stands in it exactly where they say so, so that each
+-- line shown has its balance, and each balance above 0 is shown; and each line has a posting behind it
 pub record Tells (ps : List Call) : Type 0 where
   pub exactly : (x : Item) → Among x (items (accountsBy ps)) ↔ Says (accountsBy ps) x
   pub rises : Rising 0 (items (accountsBy ps))
   -- and no other items do both
-  pub only : (xs : List Item) → ((x : Item) → Among x xs ↔ Says (accountsBy ps) x) → Rising 0 xs → xs ≡ items (accountsBy ps)
+  pub only :
+      (xs : List Item) → ((x : Item) → Among x xs ↔ Says (accountsBy ps) x) → Rising 0 xs
+      → xs ≡ items (accountsBy ps)
   pub behind : (x : Item) → Among x (items (accountsBy ps)) → One (Brings (accountsBy ps) x) ps
-  -- the items are the text's lines, and the figures that stand in a line, read back as a form's are read, are the item's
+  -- the items are the text's lines, and the figures in a line, read back as a form's are read, are the item's
   pub lines : linesOf (statement ps) ≡ map (itemLine (yearBy ps)) (items (accountsBy ps))
   pub figures :
       (x : Item) → Among x (items (accountsBy ps))
@@ -154,4 +157,5 @@ pub record JournalKept (input : List ℕ) : Type 0 where
   -- cut after a line feed: besides, every line is accepted
   pub cut :
       (p q : List ℕ) → journal input ≡ p ++ lineFeed ∷ q
-      → (n : ℕ) × (p ++ lineFeed ∷ [] ≡ journalOf (take n (postings input))) × Every Accepts (answers (p ++ lineFeed ∷ []))
+      → (n : ℕ) × (p ++ lineFeed ∷ [] ≡ journalOf (take n (postings input)))
+      × Every Accepts (answers (p ++ lineFeed ∷ []))

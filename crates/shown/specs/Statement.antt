@@ -78,7 +78,8 @@ rank (short k n) = cell (k .maker) (k .kind) * (years + years) + years + (k .yea
 -- a line's form: Y is the open year; a lot shown that is not live is expired, a shortage that is not open is overdue
 abbrev pub itemPattern : ℕ → Item → List ℕ
 itemPattern Y (lot k n) = cond (live Y (k .year)) (ascii "(lot # # # live #)") (ascii "(lot # # # expired #)")
-itemPattern Y (short k n) = cond (openShort Y (k .year)) (ascii "(short # # # open #)") (ascii "(short # # # overdue #)")
+itemPattern Y (short k n) =
+    cond (openShort Y (k .year)) (ascii "(short # # # open #)") (ascii "(short # # # overdue #)")
 
 -- and its figures: maker, set, year, Mg
 abbrev pub itemFigures : Item → List ℕ

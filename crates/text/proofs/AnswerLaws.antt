@@ -43,17 +43,22 @@ filed-plus : (n k : ℕ) → textOf (Answer.Filed (record { 0 = pos n }) k) ≡ 
 unfolding textOf refusalIn valuesIn filled
 filed-plus n k = refl
 
-filed-minus : (n k : ℕ) → textOf (Answer.Filed (record { 0 = negsuc n }) k) ≡ filled (ascii "(ok -# #)\n") (suc n ∷ k ∷ [])
+filed-minus :
+    (n k : ℕ) → textOf (Answer.Filed (record { 0 = negsuc n }) k) ≡ filled (ascii "(ok -# #)\n") (suc n ∷ k ∷ [])
 unfolding textOf refusalIn valuesIn filled
 filed-minus n k = refl
 
 -- a filing's, by the test of its part's sign
 module _ (m k : ℕ) where
-  pub plus : (x : ℤ) → m ≡ natAbs x → ltZ x (pos 0) ≡ false → filled (ascii "(ok # #)\n") (m ∷ k ∷ []) ≡ textOf (Answer.Filed (record { 0 = x }) k)
+  pub plus :
+      (x : ℤ) → m ≡ natAbs x → ltZ x (pos 0) ≡ false → filled (ascii "(ok # #)\n") (m ∷ k ∷ [])
+      ≡ textOf (Answer.Filed (record { 0 = x }) k)
   plus (pos n) e h = rw (e, filed-plus n k)
   plus (negsuc n) e h = absurd (true≢false h)
 
-  pub minus : (x : ℤ) → m ≡ natAbs x → ltZ x (pos 0) ≡ true → filled (ascii "(ok -# #)\n") (m ∷ k ∷ []) ≡ textOf (Answer.Filed (record { 0 = x }) k)
+  pub minus :
+      (x : ℤ) → m ≡ natAbs x → ltZ x (pos 0) ≡ true → filled (ascii "(ok -# #)\n") (m ∷ k ∷ [])
+      ≡ textOf (Answer.Filed (record { 0 = x }) k)
   minus (pos n) e h = absurd (omega (arith, ltb-true n 0 h))
   minus (negsuc n) e h = rw (e, filed-minus n k)
 

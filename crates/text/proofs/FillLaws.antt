@@ -25,7 +25,8 @@ pub record Put (p ns l out : List ℕ) (at k w i : ℕ) : Type 0 where
   pub rest : filled p ns ≡ done ++ filled (drop i p) (drop k ns)
 
 pub start : (p ns l : List ℕ) (at : ℕ) → hashes p ≤ mostFigures → Put p ns l l at 0 at 0
-start p ns l at h = record { in-pattern = omega arith; room = omega arith; done = []; out-is = refl; w-is = omega arith; rest = refl }
+start p ns l at h =
+    record { in-pattern = omega arith; room = omega arith; done = []; out-is = refl; w-is = omega arith; rest = refl }
 
 module _ {p ns l out : List ℕ} {at k w i : ℕ} (half : Put p ns l out at k w i) where
   module _ (here : i < length p) where
@@ -40,13 +41,16 @@ module _ {p ns l out : List ℕ} {at k w i : ℕ} (half : Put p ns l out at k w 
       pub place-here : k < mostFigures
       unfolding hashes
       place-here =
-          let e : hashes (drop i p) ≡ suc (hashes (drop (suc i) p)) = rw (drop-cons p i 0 here, eq-eqb _ hash is-hash) in
+          let e : hashes (drop i p) ≡ suc (hashes (drop (suc i) p)) =
+          rw (drop-cons p i 0 here, eq-eqb _ hash is-hash) in
           omega (arith, half .room)
 
-      pub put-number : Put p ns l (overwritten out w (numeral (getD ns k 0))) at (k + 1) (w + length (numeral (getD ns k 0))) (i + 1)
+      pub put-number : Put p ns l (overwritten out w (numeral (getD ns k 0))) at (k + 1)
+          (w + length (numeral (getD ns k 0))) (i + 1)
       unfolding hashes
       put-number =
-          let e : hashes (drop i p) ≡ suc (hashes (drop (suc i) p)) = rw (drop-cons p i 0 here, eq-eqb _ hash is-hash) in
+          let e : hashes (drop i p) ≡ suc (hashes (drop (suc i) p)) =
+          rw (drop-cons p i 0 here, eq-eqb _ hash is-hash) in
           record {
             in-pattern = omega arith;
             room = rw (add-one i) (omega (arith, half .room));
@@ -90,7 +94,10 @@ unfolding numeralOf
 numeral-length zero n = omega arith
 numeral-length (suc k) n = go (ltb n 10) (numeral-length k (n / 10))
   where
-    go : (b : Bool) → length (numeralOf k (n / 10)) ≤ k → length (cond b ((48 + n) ∷ []) (numeralOf k (n / 10) ++ ((48 + n % 10) ∷ []))) ≤ suc k
+    go :
+        (b : Bool)
+        → length (numeralOf k (n / 10)) ≤ k → length
+        (cond b ((48 + n) ∷ []) (numeralOf k (n / 10) ++ ((48 + n % 10) ∷ []))) ≤ suc k
     go true ih = omega arith
     go false ih = rw length-append (omega arith)
 
@@ -99,13 +106,18 @@ unfolding filled hashes
 filled-length [] ns = omega arith
 filled-length (p ∷ ps) ns = go (eqb p hash) (filled-length ps (drop 1 ns)) (filled-length ps ns)
   where
-    go : (b : Bool) → length (filled ps (drop 1 ns)) ≤ length ps + 20 * hashes ps → length (filled ps ns) ≤ length ps + 20 * hashes ps →
-        length (choose b (λ u. numeral (getD ns 0 0) ++ filled ps (drop 1 ns)) (λ u. p ∷ filled ps ns)) ≤ suc (length ps) + 20 * cond b (suc (hashes ps)) (hashes ps)
+    go :
+        (b : Bool) → length (filled ps (drop 1 ns)) ≤ length ps + 20 * hashes ps
+        → length (filled ps ns) ≤ length ps + 20 * hashes ps →
+        length (choose b (λ u. numeral (getD ns 0 0) ++ filled ps (drop 1 ns)) (λ u. p ∷ filled ps ns)) ≤ suc
+        (length ps) + 20 * cond b (suc (hashes ps)) (hashes ps)
     go true a b = rw length-append (omega (arith, numeral-length 20 (getD ns 0 0)))
     go false a b = omega arith
 
 -- room for a filled pattern, by a test that computes
-pub room-for : (p ns : List ℕ) (m at size : ℕ) → at + m ≤ size → T (leb (length p + 20 * hashes p) m) → at + length (filled p ns) ≤ size
+pub room-for :
+    (p ns : List ℕ) (m at size : ℕ) → at + m ≤ size → T (leb (length p + 20 * hashes p) m)
+    → at + length (filled p ns) ≤ size
 room-for p ns m at size h t = omega (arith, filled-length p ns, leb→le (length p + 20 * hashes p) m t)
 
 -- ---- zeros after the numbers change nothing
@@ -130,7 +142,8 @@ filled-zeros (p ∷ ps) ns k =
         (b : Bool)
         → filled ps (drop 1 (ns ++ replicate k 0)) ≡ filled ps (drop 1 ns)
         → filled ps (ns ++ replicate k 0) ≡ filled ps ns
-        → choose b (λ u. numeral (getD (ns ++ replicate k 0) 0 0) ++ filled ps (drop 1 (ns ++ replicate k 0))) (λ u. p ∷ filled ps (ns ++ replicate k 0))
+        → choose b (λ u. numeral (getD (ns ++ replicate k 0) 0 0) ++ filled ps (drop 1 (ns ++ replicate k 0)))
+        (λ u. p ∷ filled ps (ns ++ replicate k 0))
         ≡ choose b (λ u. numeral (getD ns 0 0) ++ filled ps (drop 1 ns)) (λ u. p ∷ filled ps ns)
     go true a b = rw (get-one ns k, a)
     go false a b = rw b
@@ -146,7 +159,8 @@ filled-digits [] ns = omega arith
 filled-digits (p ∷ ps) ns = go (eqb p hash) ns (filled-digits ps)
   where
     go : (b : Bool) (ns : List ℕ) → ((ns : List ℕ) → length (filled ps ns) ≤ length ps + digitsIn ns)
-        → length (choose b (λ u. numeral (getD ns 0 0) ++ filled ps (drop 1 ns)) (λ u. p ∷ filled ps ns)) ≤ suc (length ps) + digitsIn ns
+        → length (choose b (λ u. numeral (getD ns 0 0) ++ filled ps (drop 1 ns)) (λ u. p ∷ filled ps ns)) ≤ suc
+        (length ps) + digitsIn ns
     go true [] ih = rw length-append (omega (arith, ih [], ap length (numeral-small 0 (lit≤ tt))))
     go true (n ∷ ns) ih = rw length-append (omega (arith, ih ns))
     go false ns ih = omega (arith, ih ns)

@@ -48,7 +48,16 @@ abbrev pub unfit : Figures
 unfit = record { fits = false; n = replicate mostFigures 0 }
 
 pub start : (most : ℕ) (p s : List ℕ) → hashes p ≤ mostFigures → Half most p s (replicate mostFigures 0) 0 0 0
-start most p s h = record { in-pattern = omega arith; in-text = omega arith; room = omega arith; done = []; n-is = refl; k-is = refl; rest = prepended-nil (fit most p s) }
+start most p s h =
+    record {
+      in-pattern = omega arith;
+      in-text = omega arith;
+      room = omega arith;
+      done = [];
+      n-is = refl;
+      k-is = refl;
+      rest = prepended-nil (fit most p s);
+    }
 
 module _ {most : ℕ} {p s n : List ℕ} {k j i : ℕ} (half : Half most p s n k j i) where
   stops : fit most (drop i p) (drop j s) ≡ none → unfit ≡ figures most p s
@@ -60,26 +69,34 @@ module _ {most : ℕ} {p s n : List ℕ} {k j i : ℕ} (half : Half most p s n k
       pub room-here : k < mostFigures
       unfolding hashes
       room-here =
-          let e : hashes (drop i p) ≡ suc (hashes (drop (suc i) p)) = rw (drop-cons p i 0 here, eq-eqb _ hash is-hash) in
+          let e : hashes (drop i p) ≡ suc (hashes (drop (suc i) p)) =
+          rw (drop-cons p i 0 here, eq-eqb _ hash is-hash) in
           omega (arith, half .room)
 
       pub no-number : number most (drop j s) ≡ Number.Nothing → unfit ≡ figures most p s
       unfolding fit
       no-number e = stops (rw (drop-cons p i 0 here, eq-eqb _ hash is-hash, e))
 
-      pub a-number : (v d : ℕ) → number most (drop j s) ≡ Number.Read v d → Half most p s (set n k v) (k + 1) (j + d) (i + 1)
+      pub a-number :
+          (v d : ℕ) → number most (drop j s) ≡ Number.Read v d → Half most p s (set n k v) (k + 1) (j + d) (i + 1)
       unfolding fit hashes
       a-number v d e =
-          let q : fit most (drop i p) (drop j s) ≡ prepended (v ∷ []) (fit most (drop (suc i) p) (drop d (drop j s))) = rw (drop-cons p i 0 here, eq-eqb _ hash is-hash, e) in
-          let l : hashes (drop i p) ≡ suc (hashes (drop (suc i) p)) = rw (drop-cons p i 0 here, eq-eqb _ hash is-hash) in
+          let q : fit most (drop i p) (drop j s) ≡ prepended (v ∷ []) (fit most (drop (suc i) p) (drop d (drop j s))) =
+          rw (drop-cons p i 0 here, eq-eqb _ hash is-hash, e) in
+          let l : hashes (drop i p) ≡ suc (hashes (drop (suc i) p)) =
+          rw (drop-cons p i 0 here, eq-eqb _ hash is-hash) in
           record {
             in-pattern = omega arith;
             in-text = omega (arith, half .in-text, number-length most (drop j s) v d e, length-drop j s);
             room = rw (add-one i) (omega (arith, half .room));
             done = half .done ++ (v ∷ []);
-            n-is = rw (half .n-is, half .k-is, ← zero-add (length (half .done))) (overwritten-one (half .done) (replicate mostFigures 0) 0 v);
+            n-is =
+                rw (half .n-is, half .k-is, ← zero-add (length (half .done)))
+                (overwritten-one (half .done) (replicate mostFigures 0) 0 v);
             k-is = rw length-append (omega (arith, half .k-is));
-            rest = rw (half .rest, q, drop-drop, add-one i) (prepended-twice (half .done) (v ∷ []) (fit most (drop (suc i) p) (drop (j + d) s)));
+            rest =
+                rw (half .rest, q, drop-drop, add-one i)
+                (prepended-twice (half .done) (v ∷ []) (fit most (drop (suc i) p) (drop (j + d) s)));
           }
 
     module _ (other : getD p i 0 ≡ hash → ⊥) where
@@ -94,7 +111,8 @@ module _ {most : ℕ} {p s n : List ℕ} {k j i : ℕ} (half : Half most p s n k
       pub same-byte : j < length s → getD s j 0 ≡ getD p i 0 → Half most p s n k (j + 1) (i + 1)
       unfolding fit hashes
       same-byte l e =
-          let q : fit most (drop i p) (drop j s) ≡ fit most (drop (suc i) p) (drop (suc j) s) = rw (drop-cons p i 0 here, ne-eqb _ hash other, drop-cons s j 0 l, eq-eqb _ _ e) in
+          let q : fit most (drop i p) (drop j s) ≡ fit most (drop (suc i) p) (drop (suc j) s) =
+          rw (drop-cons p i 0 here, ne-eqb _ hash other, drop-cons s j 0 l, eq-eqb _ _ e) in
           let r : hashes (drop i p) ≡ hashes (drop (suc i) p) = rw (drop-cons p i 0 here, ne-eqb _ hash other) in
           record {
             in-pattern = omega arith;

@@ -28,7 +28,12 @@ lineFeed = 10
 
 -- a byte that goes on with a line
 abbrev pub holding : Terminal → ℕ → Terminal
-holding t b = record { book = t .book; held = cond (ltb (length (t .held)) mostHeld) (t .held ++ (b ∷ [])) (t .held); said = t .said }
+holding t b =
+    record {
+      book = t .book;
+      held = cond (ltb (length (t .held)) mostHeld) (t .held ++ (b ∷ [])) (t .held);
+      said = t .said;
+    }
 
 -- the end of a line
 abbrev pub answering : Terminal → Terminal
@@ -75,8 +80,8 @@ pub record Serves (t : Terminal) (out : List ℕ) (r : Reply) (out′ : List ℕ
   pub at-in : r .at ≤ length out′
   pub at-counts : r .at ≡ length (take (r .at) out′)
 
--- the contract of `take_in` and of `last`: with room for the answers, the terminal t, and the desk's len counts what it holds;
--- without, the desk and the buffer as they were
+-- the contract of `take_in` and of `last`: with room for the answers, the terminal t, and the desk's len counts what it
+-- holds; without, the desk and the buffer as they were
 pub record RepliedBy (room : Bool) (d : Desk) (t : Terminal) (out : List ℕ) (r : Reply) (out′ : List ℕ) : Type 0 where
   pub fits-is : r .fits ≡ room
   pub serves : Serves (terminalIf room t (atDesk d)) out r out′
@@ -92,11 +97,12 @@ pub record SameReply (r : Reply) (out₁ : List ℕ) (s : Reply) (out₂ : List 
   pub same-held : atDesk (r .desk) ≡ atDesk (s .desk)
   pub same-len : r .fits ≡ true → r .desk .len ≡ s .desk .len
 
--- two desks that hold the same, given the same chunk and the same buffer, or ended, give the same, and hold the same again: so
--- what lies past len shows nowhere, ever. t is what the call makes of a terminal: `takesAll` a chunk, or `ends`
+-- two desks that hold the same, given the same chunk and the same buffer, or ended, give the same, and hold the same
+-- again: so what lies past len shows nowhere, ever. t is what the call makes of a terminal: `takesAll`, or `ends`
 abbrev pub ByWhatIsHeld : Type 0
 ByWhatIsHeld =
-    (room : Bool) (t : Terminal → Terminal) (d e : Desk) (out : List ℕ) (r : Reply) (out₁ : List ℕ) (s : Reply) (out₂ : List ℕ)
+    (room : Bool) (t : Terminal → Terminal) (d e : Desk) (out : List ℕ)
+    (r : Reply) (out₁ : List ℕ) (s : Reply) (out₂ : List ℕ)
     → atDesk d ≡ atDesk e
     → RepliedBy room d (t (atDesk d)) out r out₁
     → RepliedBy room e (t (atDesk e)) out s out₂

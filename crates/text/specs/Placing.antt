@@ -17,8 +17,8 @@ pub record Stands (text : List ℕ) (at : ℕ) (out : List ℕ) (r : ℕ) (out�
 abbrev pub roomFor : ℕ → ℕ → List ℕ → Bool
 roomFor n at out = leb (at + n) (length out)
 
--- with room, the text stands in the buffer from at on, the rest is as it was, and the answer is the place after the text;
--- without, the buffer and the place are as they were
+-- with room, the text stands in the buffer from at on, the rest is as it was, and the answer is the place after the
+-- text; without, the buffer and the place are as they were
 pub record Puts (room : Bool) (text : List ℕ) (at : ℕ) (out : List ℕ) (r : Placed) (out′ : List ℕ) : Type 0 where
   pub fits-is : r .fits ≡ room
   pub at-is : r .at ≡ cond room (at + length text) at

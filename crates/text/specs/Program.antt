@@ -12,7 +12,7 @@ use Rattle.text.specs.Listing.{listing, listingRoom}
 unfoldable pub terminal : List ℕ → List ℕ
 terminal input = answersTo freshBook (linesOf input) ++ listing (bookAfterLines freshBook (linesOf input))
 
--- room for what an input of n bytes can be answered: for each byte and for one line more an answer's line, and any book's listing
+-- room for what an input of n bytes can be answered: an answer for each byte and for one line more, and any listing
 abbrev pub sessionRoom : ℕ → ℕ
 sessionRoom n = answerRoom * (n + 1) + listingRoom
 
@@ -23,7 +23,7 @@ opened = record { book = freshBook; held = []; said = [] }
 abbrev pub written : Terminal → Terminal
 written t = record { book = t .book; held = t .held; said = [] }
 
--- the input in chunks: each is answered, and the answers written, before the next is read; then the last line, then the listing
+-- the input in chunks: each is answered, and the answers written, before the next is read; then last line and listing
 unfoldable pub inChunks : Terminal → List (List ℕ) → List ℕ
 inChunks t [] = ends t .said ++ listing (ends t .book)
 inChunks t (c ∷ cs) = takesAll t c .said ++ inChunks (written (takesAll t c)) cs

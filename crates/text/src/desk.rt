@@ -14,8 +14,8 @@ use crate::serving::serve;
 use book::ledger::Book;
 use book::ledger::fresh;
 
-// The book, and the first len bytes of a line that has not ended yet. What lies past len is nobody's: a call may leave anything
-// there, and `ByWhatIsHeld` says that it shows nowhere, so two desks are compared by what they hold.
+// The book, and the first len bytes of a line that has not ended yet. What lies past len is nobody's: a call may leave
+// anything there, and `ByWhatIsHeld` says that it shows nowhere, so two desks are compared by what they hold.
 pub struct Desk {
     pub book: Book,
     pub held: [u8; MOST_HELD],
@@ -43,7 +43,8 @@ pub fn open_desk() -> Desk
 // The next bytes of the input: each line that ends in them is answered, with the book that the one before left.
 // out has room if it has ANSWER_ROOM bytes for each byte of the chunk; if not, nothing is done.
 pub fn take_in(desk: Desk, chunk: &[u8], out: &mut [u8]) -> Reply
-    ensures { λ r. ⌜ RepliedBy (leb (length (now (chunk .entry))) (length (now (out .entry)) / answerRoom)) desk (takesAll (atDesk desk) (now (chunk .entry))) (now (out .entry)) r (now (out .exit)) ⌝ }
+    ensures { λ r. ⌜ RepliedBy (leb (length (now (chunk .entry))) (length (now (out .entry)) / answerRoom)) desk
+        (takesAll (atDesk desk) (now (chunk .entry))) (now (out .entry)) r (now (out .exit)) ⌝ }
 {
     if out.len() / ANSWER_ROOM < chunk.len() {
         return Reply {
@@ -57,7 +58,8 @@ pub fn take_in(desk: Desk, chunk: &[u8], out: &mut [u8]) -> Reply
 
 // The end of the input: a last line that lacks its line feed is answered. out has room if it has ANSWER_ROOM bytes.
 pub fn last(desk: Desk, out: &mut [u8]) -> Reply
-    ensures { λ r. ⌜ RepliedBy (leb answerRoom (length (now (out .entry)))) desk (ends (atDesk desk)) (now (out .entry)) r (now (out .exit)) ⌝ }
+    ensures { λ r. ⌜ RepliedBy (leb answerRoom (length (now (out .entry)))) desk (ends (atDesk desk))
+        (now (out .entry)) r (now (out .exit)) ⌝ }
 {
     if out.len() < ANSWER_ROOM {
         return Reply {
@@ -78,7 +80,8 @@ fn held_count(len: usize) -> usize
 
 fn take_chunk(desk: Desk, chunk: &[u8], out: &mut [u8]) -> Reply
     requires { ⌜ answerRoom * length (now chunk) ≤ length (now out) ⌝ }
-    ensures { λ r. ⌜ RepliedBy true desk (takesAll (atDesk desk) (now (chunk .entry))) (now (out .entry)) r (now (out .exit)) ⌝ }
+    ensures { λ r. ⌜ RepliedBy true desk (takesAll (atDesk desk) (now (chunk .entry)))
+        (now (out .entry)) r (now (out .exit)) ⌝ }
 {
     let held = desk.held;
     let first = next_line(held, held_count(desk.len), chunk, 0, 0);

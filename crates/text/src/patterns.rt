@@ -17,7 +17,7 @@ pub struct Figures {
     pub n: [u64; MOST_FIGURES],
 }
 
-// The text is read against a pattern, in which # stands for a number of at most `most` digits and every other byte for itself.
+// Reads a text against a pattern, in which # stands for a number of at most `most` digits, any other byte for itself.
 pub(crate) fn fitted(pattern: &[u8], text: &[u8], most: usize) -> Figures
     requires { ⌜ (hashes (now pattern) ≤ mostFigures) × (most ≤ 18) ⌝ }
     ensures { λ r. ⌜ r ≡ figures most (now (pattern .entry)) (now (text .entry)) ⌝ }

@@ -21,8 +21,11 @@ same-length c = search needs
 returns : tie.Need-returns
 returns c =
     let start = c .before .before .before .before .before .before .before .before .before in
-    let room = le-leb (length (start .args .chunk .now)) (length (start .args .out .now) / answerRoom) (omega (arith, start .pre)) in
-    delivered (served room (c .before .before .before .before .before .take-in .ensures)) (c .say .ensures .0) (c .say .ensures .1)
+    let room =
+    le-leb (length (start .args .chunk .now)) (length (start .args .out .now) / answerRoom)
+    (omega (arith, start .pre)) in
+    delivered (served room (c .before .before .before .before .before .take-in .ensures)) (c .say .ensures .0)
+    (c .say .ensures .1)
 
 pub answer-chunk-spec : {M : Type 1} → statement M
 answer-chunk-spec = tie.close (tie.spec take-in-requires say-requires same-length returns)

@@ -21,7 +21,8 @@ returns : tie.Need-returns
 returns c =
     let start = c .before .before .before .before .before .before .before .before in
     let room = le-leb answerRoom (length (start .args .out .now)) (omega (arith, start .pre)) in
-    delivered (served room (c .before .before .before .before .before .last .ensures)) (c .say .ensures .0) (c .say .ensures .1)
+    delivered (served room (c .before .before .before .before .before .last .ensures)) (c .say .ensures .0)
+    (c .say .ensures .1)
 
 pub answer-last-spec : {M : Type 1} → statement M
 answer-last-spec = tie.close (tie.spec last-requires say-requires same-length returns)

@@ -36,8 +36,12 @@ same-length c = search needs
 returns : tie.Need-returns
 returns c =
     let start = c .before .before .before .before .before .before .before .before in
-    let m : c .before .before .before .before .before .before .size-of .result ≡ natAbs (start .args .part) = c .before .before .before .before .before .before .size-of .ensures ∙ ap natAbs (toZ-ofZ (start .fits .part)) in
-    as-text (filled-zeros _ (_ ∷ _ ∷ []) 10 ∙ minus _ _ (start .args .part) m (read-below (pos 0) _ (start .fits .part) (c .before .before .before .before .before .if1 .taken))) (c .before .before .fill .ensures)
+    let m : c .before .before .before .before .before .before .size-of .result ≡ natAbs (start .args .part) =
+    c .before .before .before .before .before .before .size-of .ensures ∙ ap natAbs (toZ-ofZ (start .fits .part)) in
+    as-text
+    (filled-zeros _ (_ ∷ _ ∷ []) 10 ∙ minus _ _ (start .args .part) m
+    (read-below (pos 0) _ (start .fits .part) (c .before .before .before .before .before .if1 .taken)))
+    (c .before .before .fill .ensures)
 
 same-length-2 : tie.Need-same-length-2
 same-length-2 c = search needs
@@ -45,8 +49,12 @@ same-length-2 c = search needs
 returns-2 : tie.Need-returns-2
 returns-2 c =
     let start = c .before .before .before .before .before .before .before .before in
-    let m : c .before .before .before .before .before .before .size-of .result ≡ natAbs (start .args .part) = c .before .before .before .before .before .before .size-of .ensures ∙ ap natAbs (toZ-ofZ (start .fits .part)) in
-    as-text (filled-zeros _ (_ ∷ _ ∷ []) 10 ∙ plus _ _ (start .args .part) m (read-below (pos 0) _ (start .fits .part) (c .before .before .before .before .before .if1 .left))) (c .before .before .fill2 .ensures)
+    let m : c .before .before .before .before .before .before .size-of .result ≡ natAbs (start .args .part) =
+    c .before .before .before .before .before .before .size-of .ensures ∙ ap natAbs (toZ-ofZ (start .fits .part)) in
+    as-text
+    (filled-zeros _ (_ ∷ _ ∷ []) 10 ∙ plus _ _ (start .args .part) m
+    (read-below (pos 0) _ (start .fits .part) (c .before .before .before .before .before .if1 .left)))
+    (c .before .before .fill2 .ensures)
 
 pub put-filed-spec : {M : Type 1} → statement M
 put-filed-spec =

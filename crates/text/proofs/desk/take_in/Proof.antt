@@ -14,7 +14,8 @@ same-length : tie.Need-same-length
 same-length c = search needs
 
 returns-2 : tie.Need-returns-2
-returns-2 c = with-room (le-leb _ _ (c .before .before .before .before .if1 .left)) (c .before .before .take-chunk .ensures)
+returns-2 c =
+    with-room (le-leb _ _ (c .before .before .before .before .if1 .left)) (c .before .before .take-chunk .ensures)
 
 pub take-in-spec : {M : Type 1} → statement M
 take-in-spec = tie.close (tie.spec returns take-chunk-requires same-length returns-2)

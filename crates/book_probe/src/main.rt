@@ -1,7 +1,7 @@
-// Puts calls to books that no session reaches, whatever their figures, so that a second implementation can be held against
-// the five calls and soundness. Standard input holds records of 3,627 words, each a book and a call; for each record it
-// writes 3,621 words: whether the book is sound, the answer, and the book after the call. A word is 64 bits, low byte
-// first. A last record that is cut short is ignored. A kind of call that is not known ends the run, with a message.
+// Puts calls to books that no session reaches, whatever their figures, to hold a second implementation against the five
+// calls and soundness. Standard input holds records of 3,627 words, each a book and a call; for each record it writes
+// 3,621 words: whether the book is sound, the answer, and the book after the call. A word is 64 bits, low byte first.
+// A last record that is cut short is ignored. A kind of call that is not known ends the run, with a message.
 mod records;
 mod words;
 
@@ -14,7 +14,7 @@ use libc::STDOUT_FILENO;
 use records::RECORD;
 use records::answer_record;
 
-// Reads one record and writes its answer; false at the end of the input, at a kind that is not known, or where a write fails.
+// Reads one record and writes its answer; false at the input's end, at a kind that is not known, or if a write fails.
 fn turn(input: &mut [u8], out: &mut [u8]) -> bool
     requires { ⌜ (recordBytes ≡ length (now input)) × (answerBytes ≡ length (now out)) ⌝ }
 {

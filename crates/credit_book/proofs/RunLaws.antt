@@ -14,18 +14,22 @@ after : Terminal → List (List ℕ) → Terminal
 after t [] = t
 after t (c ∷ cs) = after (written (takesAll t c)) cs
 
-after-more : (t : Terminal) (cs : List (List ℕ)) (c : List ℕ) → after t (cs ++ (c ∷ [])) ≡ written (takesAll (after t cs) c)
+after-more :
+    (t : Terminal) (cs : List (List ℕ)) (c : List ℕ) → after t (cs ++ (c ∷ [])) ≡ written (takesAll (after t cs) c)
 unfolding after
 after-more t [] c = refl
 after-more t (x ∷ cs) c = after-more (written (takesAll t x)) cs c
 
-taken : (chunks : List (List ℕ)) (t : Terminal) (more fine : Bool) → Reading chunks t more fine → t ≡ after opened chunks
+taken :
+    (chunks : List (List ℕ)) (t : Terminal) (more fine : Bool) → Reading chunks t more fine → t ≡ after opened chunks
 unfolding after
 taken _ _ _ _ Reading.begun = refl
 taken _ _ _ _ (Reading.turn {chunks} {t} {before} chunk got interrupted wrote g e h) =
     rw (after-more opened chunks chunk, taken chunks t _ before g)
 
-in-turns : (t : Terminal) (cs : List (List ℕ)) → inChunks t cs ≡ saidTo t cs ++ (ends (after t cs) .said ++ listing (ends (after t cs) .book))
+in-turns :
+    (t : Terminal) (cs : List (List ℕ)) → inChunks t cs ≡ saidTo t cs
+    ++ (ends (after t cs) .said ++ listing (ends (after t cs) .book))
 unfolding inChunks saidTo after
 in-turns t [] = refl
 in-turns t (c ∷ cs) =

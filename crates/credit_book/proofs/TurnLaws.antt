@@ -14,7 +14,7 @@ use mir.Facts.{toZ-ofZ}
 use lib.ListN.{length, length-append}
 use lib.Seq.{length-take-le}
 use Rattle.text.specs.declared.desk.Desk.{Desk}
-use Rattle.text.specs.declared.desk.Fed.{Fed}
+use Rattle.text.specs.declared.desk.Reply.{Reply}
 use Rattle.text.specs.Desk.{Terminal, Serves, atDesk, openDesk, ends}
 use Rattle.text.specs.Listing.{listing}
 use Rattle.text.specs.Placing.{Stands}
@@ -23,11 +23,14 @@ use Rattle.credit_book.specs.declared.Wrote.{Wrote}
 use Rattle.credit_book.specs.declared.Said.{Said}
 use Rattle.credit_book.specs.declared.Turn.{Turn}
 use Rattle.io.specs.Counts.{clamped}
-use Rattle.credit_book.specs.Turns.{chunkRoom, firstBytes, Says, Turned, Reading, ClosedBy, turnFine, readsOn, mostTurns}
+use Rattle.credit_book.specs.Turns.{chunkRoom, firstBytes, Delivered, Turned, Reading, ClosedBy, turnFine}
+use Rattle.credit_book.specs.Turns.{readsOn, mostTurns}
 
 -- a desk's answers, handed over
-pub says : {t : Terminal} {out out′ : List ℕ} {f : Fed} {d : Desk} {wrote : Wrote} → Serves t out f out′ → d ≡ f .desk → wrote .handed ≡ f .at → Says t out d wrote out′
-says s e h =
+pub delivered :
+    {t : Terminal} {out out′ : List ℕ} {f : Reply} {d : Desk} {wrote : Wrote} → Serves t out f out′ → d ≡ f .desk
+    → wrote .handed ≡ f .at → Delivered t out d wrote out′
+delivered s e h =
     record {
       desk-is = rw (e, s .book-is, s .held-is);
       stands = record { end-is = h ∙ s .at-is ∙ sym (zero-add _); out-is = s .out-is };
@@ -46,23 +49,29 @@ pub none-yet : {out : List ℕ} {d : Desk} → d ≡ openDesk → SoFar out out 
 none-yet e = record { long = refl; within = omega arith; chunks = []; reading = rw e Reading.begun; counts = refl }
 
 -- as many bytes as the read answered
-as-long : (got : ℤ) (buffer : List ℕ) → length buffer ≡ chunkRoom → length (firstBytes got buffer) ≡ clamped got chunkRoom
+as-long :
+    (got : ℤ) (buffer : List ℕ) → length buffer ≡ chunkRoom → length (firstBytes got buffer) ≡ clamped got chunkRoom
 as-long (pos k) buffer e = length-take-le (clamped (pos k) chunkRoom) buffer (omega (arith, e))
 as-long (negsuc k) buffer e = length-take-le 0 buffer (omega arith)
 
 -- one turn more; the loop holds what the read answered as its bits
 pub next :
-    {out₀ out out′ : List ℕ} {d : Desk} {turns : ℕ} {on before more fine : Bool} {r : Turn} → on ≡ true → turns < mostTurns → SoFar out₀ out d turns on before → Turned d out r out′
+    {out₀ out out′ : List ℕ} {d : Desk} {turns : ℕ} {on before more fine : Bool} {r : Turn}
+    → on ≡ true → turns < mostTurns → SoFar out₀ out d turns on before → Turned d out r out′
     → SFits w64 (r .got)
     → fine ≡ turnFine (toZ w64 (ofZ w64 (r .got))) (r .interrupted) (r .wrote .fine)
     → more ≡ readsOn (toZ w64 (ofZ w64 (r .got))) fine
     → SoFar out₀ out′ (r .desk) (turns + 1) more fine
 next {d = d} {before = before} {r = r} o h g s z f m =
     record {
-      long = same-long (s .says .stands) ∙ g .long;
+      long = same-long (s .delivered .stands) ∙ g .long;
       within = omega arith;
       chunks = g .chunks ++ (firstBytes (r .got) (s .buffer) ∷ []);
-      reading = rw (m, f, toZ-ofZ z, s .says .desk-is) (Reading.turn (firstBytes (r .got) (s .buffer)) (r .got) (r .interrupted) (r .wrote) (subst (λ (b : Bool). Reading (g .chunks) (atDesk d) b before) o (g .reading)) (as-long (r .got) (s .buffer) (s .long)) (s .says .stands .end-is ∙ zero-add _));
+      reading =
+          rw (m, f, toZ-ofZ z, s .delivered .desk-is)
+          (Reading.turn (firstBytes (r .got) (s .buffer)) (r .got) (r .interrupted) (r .wrote)
+          (subst (λ (b : Bool). Reading (g .chunks) (atDesk d) b before) o (g .reading))
+          (as-long (r .got) (s .buffer) (s .long)) (s .delivered .stands .end-is ∙ zero-add _));
       counts = rw (length-append (g .chunks) (firstBytes (r .got) (s .buffer) ∷ [])) (omega (arith, g .counts));
     }
 
@@ -70,7 +79,9 @@ next {d = d} {before = before} {r = r} o h g s z f m =
 pub read-negative : {b : Bool} (z : ℤ) → SFits w64 z → ltZ (toZ w64 (ofZ w64 z)) (pos 0) ≡ b → ltZ z (pos 0) ≡ b
 read-negative z f e = ap (λ (x : ℤ). ltZ x (pos 0)) (sym (toZ-ofZ f)) ∙ e
 
-pub negative-fine : (z : ℤ) (interrupted wrote : Bool) → ltZ z (pos 0) ≡ true → cond interrupted wrote false ≡ turnFine z interrupted wrote
+pub negative-fine :
+    (z : ℤ) (interrupted wrote : Bool) → ltZ z (pos 0) ≡ true → cond interrupted wrote false
+    ≡ turnFine z interrupted wrote
 negative-fine (pos k) i w e = let h : k < 0 = ltb-true k 0 e in absurd (omega arith)
 negative-fine (negsuc k) i w e = refl
 
@@ -90,11 +101,15 @@ not-ended (negsuc k) fine n = refl
 
 -- ---- the end of the input
 -- a text that stands at the buffer's start, and is handed over to its end
-pub hands : {text out out′ : List ℕ} {at handed : ℕ} → Stands text 0 out at out′ → handed ≡ at → Stands text 0 out handed out′
+pub hands :
+    {text out out′ : List ℕ} {at handed : ℕ} → Stands text 0 out at out′ → handed ≡ at → Stands text 0 out handed out′
 hands s e = record { end-is = e ∙ s .end-is; out-is = s .out-is }
 
-module _ {t : Terminal} {out out′ : List ℕ} {said : Said} {listed : Wrote} (s : Says (ends t) out (said .desk) (said .wrote) out′) where
-  pub lists : {out″ : List ℕ} → said .wrote .fine ≡ true → Stands (listing (said .desk .book)) 0 out′ (listed .handed) out″ → ClosedBy t (record { last = said .wrote; listed = listed })
+module _ {t : Terminal} {out out′ : List ℕ} {said : Said} {listed : Wrote}
+    (s : Delivered (ends t) out (said .desk) (said .wrote) out′) where
+  pub lists :
+      {out″ : List ℕ} → said .wrote .fine ≡ true → Stands (listing (said .desk .book)) 0 out′ (listed .handed) out″
+      → ClosedBy t (record { last = said .wrote; listed = listed })
   lists f l =
       record {
         handed-is = s .stands .end-is ∙ zero-add _;
@@ -102,7 +117,8 @@ module _ {t : Terminal} {out out′ : List ℕ} {said : Said} {listed : Wrote} (
         unlisted = λ e. absurd (true≢false (sym f ∙ e));
       }
 
-  pub lists-nothing : said .wrote .fine ≡ false → listed .handed ≡ 0 → ClosedBy t (record { last = said .wrote; listed = listed })
+  pub lists-nothing :
+      said .wrote .fine ≡ false → listed .handed ≡ 0 → ClosedBy t (record { last = said .wrote; listed = listed })
   lists-nothing f l =
       record {
         handed-is = s .stands .end-is ∙ zero-add _;

@@ -1,5 +1,5 @@
--- What the program's functions hold to. No contract can say what a call of the system read or wrote; these say it of values:
--- what a read answered, how many bytes were handed to standard output, and what stood in the buffer that they came from.
+-- What the program's functions hold to. No contract can say what a call of the system read or wrote; these say it of
+-- values: what a read answered, how many bytes standard output was handed, and what stood in the buffer they came from.
 use Prim.Native.Nat.{ℕ, zero, suc}
 use mathlib.Core.Bool.{Bool, true, false, cond}
 use mathlib.Core.Path.{_≡_}
@@ -30,7 +30,7 @@ abbrev pub mostTurns : ℕ
 mostTurns = 18446744073709551615
 
 -- a desk after what the terminal t said was written: it stands at the buffer's start, and all of it was handed over
-pub record Says (t : Terminal) (out : List ℕ) (d : Desk) (wrote : Wrote) (out′ : List ℕ) : Type 0 where
+pub record Delivered (t : Terminal) (out : List ℕ) (d : Desk) (wrote : Wrote) (out′ : List ℕ) : Type 0 where
   pub desk-is : atDesk d ≡ written t
   pub stands : Stands (t .said) 0 out (wrote .handed) out′
 
@@ -38,33 +38,37 @@ pub record Says (t : Terminal) (out : List ℕ) (d : Desk) (wrote : Wrote) (out�
 abbrev pub firstBytes : ℤ → List ℕ → List ℕ
 firstBytes got buffer = take (clamped got chunkRoom) buffer
 
--- whether nothing failed in a turn, by what the read answered, whether a signal interrupted it, and whether the write was fine;
--- an interrupted read is no failure
+-- whether nothing failed in a turn, by what the read answered, whether a signal interrupted it, and whether the write
+-- was fine; an interrupted read is no failure
 abbrev pub turnFine : ℤ → Bool → Bool → Bool
 turnFine (pos k) interrupted wrote = wrote
 turnFine (negsuc k) interrupted wrote = cond interrupted wrote false
 
--- whether there may be more to read: a read that answers 0 is the end of the input, and no other is; after a failure nothing is read
+-- whether there may be more to read: only a read that answers 0 is the end of the input; after a failure, no more
 abbrev pub readsOn : ℤ → Bool → Bool
 readsOn (pos zero) fine = false
 readsOn (pos (suc k)) fine = fine
 readsOn (negsuc k) fine = fine
 
--- a turn: there is a buffer, in the code the one that the read was lent, whose first bytes the desk took; all that it said is written
+-- a turn: there is a buffer, in the code the one that the read was lent, whose first bytes the desk took; all that it
+-- said is written
 pub record Turned (d : Desk) (out : List ℕ) (r : Turn) (out′ : List ℕ) : Type 0 where
   pub buffer : List ℕ
   pub long : length buffer ≡ chunkRoom
-  pub says : Says (takesAll (atDesk d) (firstBytes (r .got) buffer)) out (r .desk) (r .wrote) out′
+  pub delivered : Delivered (takesAll (atDesk d) (firstBytes (r .got) buffer)) out (r .desk) (r .wrote) out′
 
 -- the chunks that were read, the terminal that took them, whether there may be more, and whether nothing failed:
 -- in each turn all that the terminal said was handed over, and each turn but the last left more to read
 pub data Reading : List (List ℕ) → Terminal → Bool → Bool → Type 0 where
   begun : Reading [] opened true true
   turn :
-      {chunks : List (List ℕ)} {t : Terminal} {before : Bool} (chunk : List ℕ) (got : ℤ) (interrupted : Bool) (wrote : Wrote) → Reading chunks t true before
+      {chunks : List (List ℕ)} {t : Terminal} {before : Bool}
+      (chunk : List ℕ) (got : ℤ) (interrupted : Bool) (wrote : Wrote)
+      → Reading chunks t true before
       → length chunk ≡ clamped got chunkRoom
       → wrote .handed ≡ length (takesAll t chunk .said)
-      → Reading (chunks ++ (chunk ∷ [])) (written (takesAll t chunk)) (readsOn got (turnFine got interrupted (wrote .fine))) (turnFine got interrupted (wrote .fine))
+      → Reading (chunks ++ (chunk ∷ [])) (written (takesAll t chunk))
+      (readsOn got (turnFine got interrupted (wrote .fine))) (turnFine got interrupted (wrote .fine))
 
 -- the input is read to its end, to a failure, or until the turns are used up
 pub record ReadBy (r : Input) : Type 0 where
@@ -92,8 +96,11 @@ saidTo t (c ∷ cs) = takesAll t c .said ++ saidTo (written (takesAll t c)) cs
 pub record RanBy (r : Ran) : Type 0 where
   pub read : ReadBy (r .input)
   pub closes : atEnd (r .input .more) (r .input .fine) ≡ true → ClosedBy (atDesk (r .input .desk)) (r .closed)
-  pub unclosed : atEnd (r .input .more) (r .input .fine) ≡ false → (r .closed .last .handed ≡ 0) × (r .closed .listed .handed ≡ 0)
+  pub unclosed :
+      atEnd (r .input .more) (r .input .fine) ≡ false
+      → (r .closed .last .handed ≡ 0) × (r .closed .listed .handed ≡ 0)
   -- what the turns, the last line and the listing say is together the terminal's answer to the bytes that were read
   pub whole :
-      saidTo opened (read .chunks) ++ (ends (atDesk (r .input .desk)) .said ++ listing (ends (atDesk (r .input .desk)) .book))
+      saidTo opened (read .chunks)
+      ++ (ends (atDesk (r .input .desk)) .said ++ listing (ends (atDesk (r .input .desk)) .book))
       ≡ terminal (joined (read .chunks))

@@ -1,4 +1,4 @@
-// The program of document 01: starts from a fresh book, reads standard input to its end, answers each line, then lists the cells.
+// The program of document 01: from a fresh book, reads standard input to its end, answers each line, lists the cells.
 // The contracts speak of values, since none can say what a call of the system read or wrote (specs/Turns.antt).
 ghost use Prim.Native.Nat.{_≤_};
 ghost use mathlib.Core.Bool.{true};
@@ -7,7 +7,8 @@ ghost use lib.ListN.{length};
 ghost use Rattle.text.specs.Desk.{atDesk, ends, takesAll};
 ghost use Rattle.text.specs.Listing.{listing};
 ghost use Rattle.text.specs.Placing.{Stands};
-ghost use Rattle.credit_book.specs.Turns.{ClosedBy, RanBy, ReadBy, Says, Turned, atEnd, chunkRoom, firstBytes, outRoom, readsOn, turnFine};
+ghost use Rattle.credit_book.specs.Turns.{ClosedBy, Delivered, RanBy, ReadBy, Turned};
+ghost use Rattle.credit_book.specs.Turns.{atEnd, chunkRoom, firstBytes, outRoom, readsOn, turnFine};
 use libc::STDIN_FILENO;
 use libc::STDOUT_FILENO;
 use text::answering::ANSWER_ROOM;
@@ -92,17 +93,18 @@ fn say(desk: Desk, at: usize, out: &[u8]) -> Said
 
 fn answer_chunk(desk: Desk, chunk: &[u8], out: &mut [u8]) -> Said
     requires { ⌜ (length (now chunk) ≤ chunkRoom) × (outRoom ≤ length (now out)) ⌝ }
-    ensures { λ r. ⌜ Says (takesAll (atDesk desk) (now (chunk .entry))) (now (out .entry)) (r .desk) (r .wrote) (now (out .exit)) ⌝ }
+    ensures { λ r. ⌜ Delivered (takesAll (atDesk desk) (now (chunk .entry)))
+        (now (out .entry)) (r .desk) (r .wrote) (now (out .exit)) ⌝ }
 {
-    let fed = text::desk::feed(desk, chunk, out);
-    let after = fed.desk;
-    say(after, fed.at, out)
+    let reply = text::desk::take_in(desk, chunk, out);
+    let after = reply.desk;
+    say(after, reply.at, out)
 }
 
 // The answer to a last line that lacks its line feed.
 fn answer_last(desk: Desk, out: &mut [u8]) -> Said
     requires { ⌜ outRoom ≤ length (now out) ⌝ }
-    ensures { λ r. ⌜ Says (ends (atDesk desk)) (now (out .entry)) (r .desk) (r .wrote) (now (out .exit)) ⌝ }
+    ensures { λ r. ⌜ Delivered (ends (atDesk desk)) (now (out .entry)) (r .desk) (r .wrote) (now (out .exit)) ⌝ }
 {
     let ended = text::desk::last(desk, out);
     let after = ended.desk;
@@ -138,7 +140,8 @@ fn reads_on(got: isize, fine: bool) -> bool
 // Answers what a read left at the buffer's start, as many bytes as it answered, be it none.
 fn answer_read(desk: Desk, buffer: &[u8], got: isize, out: &mut [u8]) -> Said
     requires { ⌜ (length (now buffer) ≡ chunkRoom) × (outRoom ≤ length (now out)) ⌝ }
-    ensures { λ r. ⌜ Says (takesAll (atDesk desk) (firstBytes got (now (buffer .entry)))) (now (out .entry)) (r .desk) (r .wrote) (now (out .exit)) ⌝ }
+    ensures { λ r. ⌜ Delivered (takesAll (atDesk desk) (firstBytes got (now (buffer .entry))))
+        (now (out .entry)) (r .desk) (r .wrote) (now (out .exit)) ⌝ }
 {
     let n = io::count(got, buffer);
     answer_chunk(desk, &buffer[..n], out)
@@ -166,7 +169,7 @@ fn read_some(desk: Desk, out: &mut [u8]) -> Turn
     }
 }
 
-// A proved loop has to end, and nothing says that the input does: the loop counts its turns up to a number that no run reaches.
+// A proved loop has to end, and nothing says that the input does: it counts its turns up to a number no run reaches.
 fn read_all(out: &mut [u8]) -> Input
     requires { ⌜ outRoom ≤ length (now out) ⌝ }
     ensures { λ r. ⌜ ReadBy r ⌝ }

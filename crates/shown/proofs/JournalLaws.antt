@@ -37,10 +37,12 @@ one-lines : (l s : List ℕ) → OneLine l → AllOneLine (linesFrom l s)
 unfolding linesFrom
 one-lines [] [] h = tt
 one-lines (x ∷ l) [] h = (h, tt)
-one-lines l (x ∷ s) h = go (eqb x lineFeed) refl (one-lines [] s tt) (λ n. one-lines (l ++ (x ∷ [])) s (one-more l x h n))
+one-lines l (x ∷ s) h =
+    go (eqb x lineFeed) refl (one-lines [] s tt) (λ n. one-lines (l ++ (x ∷ [])) s (one-more l x h n))
   where
     go :
-        (e : Bool) → eqb x lineFeed ≡ e → AllOneLine (linesFrom [] s) → ((x ≡ lineFeed → ⊥) → AllOneLine (linesFrom (l ++ (x ∷ [])) s))
+        (e : Bool) → eqb x lineFeed ≡ e → AllOneLine (linesFrom [] s)
+        → ((x ≡ lineFeed → ⊥) → AllOneLine (linesFrom (l ++ (x ∷ [])) s))
         → AllOneLine (cond e (l ∷ linesFrom [] s) (linesFrom (l ++ (x ∷ [])) s))
     go true e p q = (h, p)
     go false e p q = q (eqb-false x lineFeed e)
@@ -73,7 +75,9 @@ unfolding acceptedOnly
 written-kept b [] w = tt
 written-kept b (c ∷ cs) w = go (isAccepted (posted b c .answer)) (written-kept (posted b c .book) cs (w .1))
   where
-    go : (t : Bool) → Written (acceptedOnly (posted b c .book) cs) → Written (keepIf t c (acceptedOnly (posted b c .book) cs))
+    go :
+        (t : Bool) → Written (acceptedOnly (posted b c .book) cs)
+        → Written (keepIf t c (acceptedOnly (posted b c .book) cs))
     go true v = (w .0, v)
     go false v = v
 
@@ -81,7 +85,9 @@ written-kept b (c ∷ cs) w = go (isAccepted (posted b c .answer)) (written-kept
 journal-lines : (cs : List Call) → Written cs → linesOf (journalOf cs) ≡ map rendered cs
 unfolding journalOf linesFrom
 journal-lines [] w = refl
-journal-lines (c ∷ cs) w = lines .ended (rendered c) (journalOf cs) (w .0 .one) ∙ ap (λ (ls : List (List ℕ)). rendered c ∷ ls) (journal-lines cs (w .1))
+journal-lines (c ∷ cs) w =
+    lines .ended (rendered c) (journalOf cs) (w .0 .one)
+    ∙ ap (λ (ls : List (List ℕ)). rendered c ∷ ls) (journal-lines cs (w .1))
 
 texts-read : (cs : List Call) → Written cs → callsOf (map rendered cs) ≡ cs
 unfolding callsOf
@@ -100,10 +106,12 @@ accepted-again b (c ∷ cs) = go (isAccepted (posted b c .answer)) refl (accepte
     go :
         (t : Bool) → isAccepted (posted b c .answer) ≡ t
         → acceptedOnly (posted b c .book) (acceptedOnly (posted b c .book) cs) ≡ acceptedOnly (posted b c .book) cs
-        → acceptedOnly b (keepIf t c (acceptedOnly (posted b c .book) cs)) ≡ keepIf t c (acceptedOnly (posted b c .book) cs)
+        → acceptedOnly b (keepIf t c (acceptedOnly (posted b c .book) cs))
+        ≡ keepIf t c (acceptedOnly (posted b c .book) cs)
     go true e ih = rw e (ap (λ (ds : List Call). c ∷ ds) ih)
     go false e ih =
-        subst (λ (d : Book). acceptedOnly d (acceptedOnly (posted b c .book) cs) ≡ acceptedOnly (posted b c .book) cs) (demand1 b c .unchanged e) ih
+        subst (λ (d : Book). acceptedOnly d (acceptedOnly (posted b c .book) cs) ≡ acceptedOnly (posted b c .book) cs)
+        (demand1 b c .unchanged e) ih
 
 pub answers-accepted : (b : Book) (cs : List Call) → Every Accepts (answersOf b (acceptedOnly b cs))
 unfolding acceptedOnly answersOf
@@ -111,19 +119,23 @@ answers-accepted b [] = tt
 answers-accepted b (c ∷ cs) = go (isAccepted (posted b c .answer)) refl (answers-accepted (posted b c .book) cs)
   where
     go :
-        (t : Bool) → isAccepted (posted b c .answer) ≡ t → Every Accepts (answersOf (posted b c .book) (acceptedOnly (posted b c .book) cs))
+        (t : Bool) → isAccepted (posted b c .answer)
+        ≡ t → Every Accepts (answersOf (posted b c .book) (acceptedOnly (posted b c .book) cs))
         → Every Accepts (answersOf b (keepIf t c (acceptedOnly (posted b c .book) cs)))
     go true e ih = (e, ih)
     go false e ih =
-        subst (λ (d : Book). Every Accepts (answersOf d (acceptedOnly (posted b c .book) cs))) (demand1 b c .unchanged e) ih
+        subst (λ (d : Book). Every Accepts (answersOf d (acceptedOnly (posted b c .book) cs)))
+        (demand1 b c .unchanged e) ih
 
 -- where every line is a form, its answers are the calls'
 dealt-all : (b : Book) (cs : List Call) → Written cs → inTurn (map rendered cs) (answersOf b cs) ≡ answersOf b cs
 unfolding inTurn answersOf
 dealt-all b [] w = refl
-dealt-all b (c ∷ cs) w = rw (w .0 .reads-as) (ap (λ xs. posted b c .answer ∷ xs) (dealt-all (posted b c .book) cs (w .1)))
+dealt-all b (c ∷ cs) w =
+    rw (w .0 .reads-as) (ap (λ xs. posted b c .answer ∷ xs) (dealt-all (posted b c .book) cs (w .1)))
 
-pub first-accepted : (b : Book) (cs : List Call) (n : ℕ) → Every Accepts (answersOf b cs) → Every Accepts (answersOf b (take n cs))
+pub first-accepted :
+    (b : Book) (cs : List Call) (n : ℕ) → Every Accepts (answersOf b cs) → Every Accepts (answersOf b (take n cs))
 unfolding answersOf
 first-accepted b cs zero h = tt
 first-accepted b [] (suc n) h = tt
@@ -161,8 +173,11 @@ cut-journal (c ∷ cs) w p q e =
     first-feed (rendered c) (journalOf cs) p q (w .0 .one) e
     (λ u. (1, ap (λ (l : List ℕ). l ++ lineFeed ∷ []) u))
     (λ p′ u v.
-    let t = cut-journal cs (w .1) p′ q v in
-    (suc (t .0), ap (λ (l : List ℕ). l ++ lineFeed ∷ []) u ∙ append-assoc (rendered c) (lineFeed ∷ p′) (lineFeed ∷ []) ∙ ap (λ (l : List ℕ). rendered c ++ lineFeed ∷ l) (t .1)))
+    let t = cut-journal cs (w .1) p′ q v in (
+      suc (t .0),
+      ap (λ (l : List ℕ). l ++ lineFeed ∷ []) u ∙ append-assoc (rendered c) (lineFeed ∷ p′) (lineFeed ∷ [])
+          ∙ ap (λ (l : List ℕ). rendered c ++ lineFeed ∷ l) (t .1),
+    ))
 
 pub written-take : (n : ℕ) (cs : List Call) → Written cs → Written (take n cs)
 written-take zero cs w = tt

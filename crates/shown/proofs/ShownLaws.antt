@@ -28,14 +28,14 @@ use Rattle.text.specs.Listing.{listing}
 use Rattle.text.specs.Program.{terminal}
 use Rattle.text.specs.Rendered.{Small}
 use Rattle.shown.specs.Calls.{answersOf, calls, answers, postings, finalBook}
-use Rattle.shown.specs.Statement.{accountsBy, yearBy, Item, lot, short, items, itemFigures, printed, statement}
+use Rattle.shown.specs.Statement.{accountsBy, yearBy, Item, lot, short, items, itemFigures, itemLines, statement}
 use Rattle.shown.specs.Journal.{journalOf, journal}
 use Rattle.shown.specs.Shown.{answerAfter, Every, Accepts, Says, Leaves, Among, Tells, ByCalls, Demands, OnScreen, JournalKept}
 use Rattle.shown.proofs.CallLaws.{book-by-calls, answers-by-calls, an-answer-each, book-append, answers-in-place, no-two}
 use Rattle.shown.proofs.LeftLaws.{left-by}
 use Rattle.shown.proofs.OrderLaws.{items-rise, only-items}
 use Rattle.shown.proofs.StatementLaws.{accounts-same, year-same, listing-is}
-use Rattle.shown.proofs.LineLaws.{printed-lines, item-read}
+use Rattle.shown.proofs.LineLaws.{item-lines, item-read}
 use Rattle.shown.proofs.ItemLaws.{Exact, each-says, says-each, says-behind}
 use Rattle.shown.proofs.JournalLaws.{Written, written-calls, written-kept, written-take, journal-read, answers-accepted, first-accepted, lines-accepted, accepted-again, cut-journal}
 use Rattle.shown.proofs.TornLaws.{torn-calls}
@@ -90,7 +90,7 @@ module _ (input : List ℕ) where
   listed : listing (finalBook input) ≡ statement (postings input)
   listed =
       listing-is (finalBook input) (accountsBy (postings input)) (sound-is (finalBook input) is-sound) by-postings
-      ∙ ap (λ (y : ℕ). printed y (items (accountsBy (postings input)))) year-is
+      ∙ ap (λ (y : ℕ). itemLines y (items (accountsBy (postings input)))) year-is
 
   exact : (k : Key) → In k → Exact (accountsBy (postings input)) k
   exact k i =
@@ -120,7 +120,7 @@ module _ (input : List ℕ) where
         rises = items-rise (accountsBy (postings input));
         only = λ xs h k. only-items (Says (accountsBy (postings input))) xs (items (accountsBy (postings input))) h exactly k (items-rise (accountsBy (postings input)));
         behind = λ x m. says-behind (postings input) x (says x m);
-        lines = printed-lines (yearBy (postings input)) (items (accountsBy (postings input)));
+        lines = item-lines (yearBy (postings input)) (items (accountsBy (postings input)));
         figures = λ x m. item-read (yearBy (postings input)) x (small x (says x m));
       }
 

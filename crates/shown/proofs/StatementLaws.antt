@@ -14,7 +14,7 @@ use Rattle.book.specs.Ledger.{Key, key, In, figureAt}
 use Rattle.book.specs.Life.{closedYear, live, expired, openShort, overdue}
 use Rattle.book.specs.Listing.{isCellYear, lotIf, lotEntry, shortageIf, shortageEntry}
 use Rattle.book.specs.Accounts.{Accounts, move, feed, feedAll}
-use Rattle.book.specs.Postings.{stored, closed, traded, applied, retired}
+use Rattle.book.specs.Postings.{stored, closeDone, tradeDone, applicationDone, retirementDone}
 use Rattle.book.specs.Rules.{posted, done}
 use Rattle.book.specs.Demand3.{isAccepted, history, bookAfter, Reconciled}
 use Rattle.book.specs.Companions.{keepIf, acceptedOnly}
@@ -24,13 +24,13 @@ use Rattle.book.specs.declared.listing.LotEntry.{LotEntry}
 use Rattle.book.specs.declared.listing.ShortageEntry.{ShortageEntry}
 use Rattle.book.proofs.TableLaws.{by-verdict}
 use Rattle.book.proofs.SoundnessLaws.{Sound}
-use Rattle.book.proofs.RefusalLaws.{done-accepted}
+use Rattle.book.proofs.CallLaws.{lawful}
 use Rattle.text.specs.Ascii.{ascii}
 use Rattle.text.specs.Numeral.{numeral}
 use Rattle.text.specs.Pattern.{filled, hash, choose}
 use Rattle.text.specs.Desk.{lineFeed}
 use Rattle.text.specs.Listing.{lotText, shortageText, gather, lotLine, shortageLine, cellText, makerText, listing}
-use Rattle.shown.specs.Statement.{asAccepted, yearAfter, yearFrom, lotBy, shortageBy, Item, lot, short, above0, collect, lotItem, shortItem, cellItems, items, itemLine, printed}
+use Rattle.shown.specs.Statement.{asAccepted, yearAfter, yearFrom, lotBy, shortageBy, Item, lot, short, above0, collect, lotItem, shortItem, cellItems, items, itemLine, itemLines}
 
 -- ---- the accounts and the open year see the accepted calls alone
 pub accounts-same : (a : Accounts) (b : Book) (cs : List Call) → feedAll a (history b cs) ≡ feedAll a (map asAccepted (acceptedOnly b cs))
@@ -47,7 +47,7 @@ accounts-same a b (c ∷ cs) = go (isAccepted (posted b c .answer)) (λ x. accou
     go false ih = ih a
 
 year-done : (b : Book) (c : Call) → yearAfter c (b .«open_year») ≡ done b c .book .«open_year»
-unfolding done stored closed traded applied retired
+unfolding done stored closeDone tradeDone applicationDone retirementDone
 year-done b (Call.File f) = refl
 year-done b (Call.Close y) = refl
 year-done b (Call.Trade t) = refl
@@ -60,7 +60,7 @@ year-posted :
 unfolding isAccepted yearFrom
 year-posted b c rest =
     by-verdict b c (λ p. yearFrom (b .«open_year») (keepIf (isAccepted (p .answer)) c rest) ≡ yearFrom (p .book .«open_year») rest)
-    (λ r. refl) (λ e. rw (done-accepted b c) (ap (λ (y : ℕ). yearFrom y rest) (year-done b c)))
+    (λ r. refl) (λ s e. rw (lawful b c s e .answered) (ap (λ (y : ℕ). yearFrom y rest) (year-done b c)))
 
 pub year-same : (b : Book) (cs : List Call) → bookAfter b cs .«open_year» ≡ yearFrom (b .«open_year») (acceptedOnly b cs)
 unfolding bookAfter acceptedOnly yearFrom
@@ -88,15 +88,15 @@ module _ (o m s v : ℕ) (hm : m < makers) (hs : s < sets) (hl : firstYear ≤ v
   lot-shown :
       (n : ℕ) → (0 < n → v < o)
       → lotText m s v (lotIf (isCellYear m s v && ltb 0 n) (lotIf (live o v) (LotEntry.Live (record { 0 = n })) (lotIf (expired o v) (LotEntry.Expired (record { 0 = n })) LotEntry.NoLot)) LotEntry.NoLot)
-      ≡ printed o (above0 n (lot (key m s v) n))
-  unfolding live expired closedYear printed itemLine
+      ≡ itemLines o (above0 n (lot (key m s v) n))
+  unfolding live expired closedYear itemLines itemLine
   lot-shown zero h = rw (in-cell m s v hm hs hl hh)
   lot-shown (suc n) h = go (decLe o (v + 6))
     where
       go :
           Dec (o ≤ v + 6)
           → lotText m s v (lotIf (isCellYear m s v && ltb 0 (suc n)) (lotIf (live o v) (LotEntry.Live (record { 0 = suc n })) (lotIf (expired o v) (LotEntry.Expired (record { 0 = suc n })) LotEntry.NoLot)) LotEntry.NoLot)
-          ≡ printed o (above0 (suc n) (lot (key m s v) (suc n)))
+          ≡ itemLines o (above0 (suc n) (lot (key m s v) (suc n)))
       go (yes d) =
           rw (in-cell m s v hm hs hl hh, lt-ltb 0 (suc n) (omega arith), le-leb firstYear v hl, lt-ltb v o (h (omega arith)), le-leb o (v + 6) d) (filled-end (ascii "(lot # # # live #)") _)
       go (no d) =
@@ -105,34 +105,34 @@ module _ (o m s v : ℕ) (hm : m < makers) (hs : s < sets) (hl : firstYear ≤ v
   shortage-shown :
       (n : ℕ) → (0 < n → v < o)
       → shortageText m s v (shortageIf (isCellYear m s v && ltb 0 n) (shortageIf (openShort o v) (ShortageEntry.Open (record { 0 = n })) (shortageIf (overdue o v) (ShortageEntry.Overdue (record { 0 = n })) ShortageEntry.NoShortage)) ShortageEntry.NoShortage)
-      ≡ printed o (above0 n (short (key m s v) n))
-  unfolding openShort overdue closedYear printed itemLine
+      ≡ itemLines o (above0 n (short (key m s v) n))
+  unfolding openShort overdue closedYear itemLines itemLine
   shortage-shown zero h = rw (in-cell m s v hm hs hl hh)
   shortage-shown (suc n) h = go (decLe o (v + 4))
     where
       go :
           Dec (o ≤ v + 4)
           → shortageText m s v (shortageIf (isCellYear m s v && ltb 0 (suc n)) (shortageIf (openShort o v) (ShortageEntry.Open (record { 0 = suc n })) (shortageIf (overdue o v) (ShortageEntry.Overdue (record { 0 = suc n })) ShortageEntry.NoShortage)) ShortageEntry.NoShortage)
-          ≡ printed o (above0 (suc n) (short (key m s v) (suc n)))
+          ≡ itemLines o (above0 (suc n) (short (key m s v) (suc n)))
       go (yes d) =
           rw (in-cell m s v hm hs hl hh, lt-ltb 0 (suc n) (omega arith), le-leb firstYear v hl, lt-ltb v o (h (omega arith)), le-leb o (v + 4) d) (filled-end (ascii "(short # # # open #)") _)
       go (no d) =
           rw (in-cell m s v hm hs hl hh, lt-ltb 0 (suc n) (omega arith), le-leb firstYear v hl, lt-ltb v o (h (omega arith)), lt-leb o (v + 4) (omega arith), lt-ltb (v + 4) o (omega arith)) (filled-end (ascii "(short # # # overdue #)") _)
 
 -- ---- all lines
-printed-append : (o : ℕ) (xs ys : List Item) → printed o (xs ++ ys) ≡ printed o xs ++ printed o ys
-unfolding printed
-printed-append o [] ys = refl
-printed-append o (x ∷ xs) ys = rw (printed-append o xs ys) (sym (append-assoc (itemLine o x) (lineFeed ∷ printed o xs) (printed o ys)))
+item-lines-append : (o : ℕ) (xs ys : List Item) → itemLines o (xs ++ ys) ≡ itemLines o xs ++ itemLines o ys
+unfolding itemLines
+item-lines-append o [] ys = refl
+item-lines-append o (x ∷ xs) ys = rw (item-lines-append o xs ys) (sym (append-assoc (itemLine o x) (lineFeed ∷ itemLines o xs) (itemLines o ys)))
 
 -- what is gathered line by line is what is collected, printed
-gather-printed :
-    (o n : ℕ) (f : ℕ → List ℕ) (g : ℕ → List Item) → ((i : ℕ) → i < n → f i ≡ printed o (g i))
-    → gather n f ≡ printed o (collect n g)
-unfolding gather collect printed
-gather-printed o zero f g h = refl
-gather-printed o (suc n) f g h =
-    ap₂ _++_ (gather-printed o n f g (λ i l. h i (omega arith))) (h n (omega arith)) ∙ sym (printed-append o (collect n g) (g n))
+gather-lines :
+    (o n : ℕ) (f : ℕ → List ℕ) (g : ℕ → List Item) → ((i : ℕ) → i < n → f i ≡ itemLines o (g i))
+    → gather n f ≡ itemLines o (collect n g)
+unfolding gather collect itemLines
+gather-lines o zero f g h = refl
+gather-lines o (suc n) f g h =
+    ap₂ _++_ (gather-lines o n f g (λ i l. h i (omega arith))) (h n (omega arith)) ∙ sym (item-lines-append o (collect n g) (g n))
 
 -- a figure above 0 is of a closed year, if those of the open year and later are 0
 closed-year : (Y y n : ℕ) → (Y ≤ y → n ≡ 0) → 0 < n → y < Y
@@ -144,32 +144,32 @@ closed-year Y y n zeros h = go (decLe Y y)
 
 module _ (b : Book) (a : Accounts) (w : Sound b) (r : (k : Key) → In k → Reconciled b a k) where
   module _ (m s : ℕ) (hm : m < makers) (hs : s < sets) where
-    lot-line : (i : ℕ) → i < years → lotLine (b .«open_year») (b .lots) m s i ≡ printed (b .«open_year») (lotItem a m s i)
+    lot-line : (i : ℕ) → i < years → lotLine (b .«open_year») (b .lots) m s i ≡ itemLines (b .«open_year») (lotItem a m s i)
     unfolding lotLine lotEntry
     lot-line i hi =
         let k : Key = key m s (firstYear + i) in
         let j : In k = omega arith in
         let e : figureAt (b .lots) k ≡ lotBy a k = omega (arith, r k j .lot) in
         lot-shown (b .«open_year») m s (firstYear + i) hm hs (omega arith) (omega arith) (figureAt (b .lots) k) (closed-year _ _ _ (λ l. w .ahead k j l .0))
-        ∙ ap (λ (n : ℕ). printed (b .«open_year») (above0 n (lot k n))) e
+        ∙ ap (λ (n : ℕ). itemLines (b .«open_year») (above0 n (lot k n))) e
 
-    shortage-line : (i : ℕ) → i < years → shortageLine (b .«open_year») (b .shortages) m s i ≡ printed (b .«open_year») (shortItem a m s i)
+    shortage-line : (i : ℕ) → i < years → shortageLine (b .«open_year») (b .shortages) m s i ≡ itemLines (b .«open_year») (shortItem a m s i)
     unfolding shortageLine shortageEntry
     shortage-line i hi =
         let k : Key = key m s (firstYear + i) in
         let j : In k = omega arith in
         let e : figureAt (b .shortages) k ≡ shortageBy a k = omega (arith, r k j .shortage) in
         shortage-shown (b .«open_year») m s (firstYear + i) hm hs (omega arith) (omega arith) (figureAt (b .shortages) k) (closed-year _ _ _ (λ l. w .ahead k j l .1))
-        ∙ ap (λ (n : ℕ). printed (b .«open_year») (above0 n (short k n))) e
+        ∙ ap (λ (n : ℕ). itemLines (b .«open_year») (above0 n (short k n))) e
 
-    cell-same : cellText b m s ≡ printed (b .«open_year») (cellItems a m s)
+    cell-same : cellText b m s ≡ itemLines (b .«open_year») (cellItems a m s)
     unfolding cellText cellItems
     cell-same =
-        ap₂ _++_ (gather-printed _ years _ (lotItem a m s) lot-line) (gather-printed _ years _ (shortItem a m s) shortage-line)
-        ∙ sym (printed-append (b .«open_year») (collect years (lotItem a m s)) (collect years (shortItem a m s)))
+        ap₂ _++_ (gather-lines _ years _ (lotItem a m s) lot-line) (gather-lines _ years _ (shortItem a m s) shortage-line)
+        ∙ sym (item-lines-append (b .«open_year») (collect years (lotItem a m s)) (collect years (shortItem a m s)))
 
-  pub listing-is : listing b ≡ printed (b .«open_year») (items a)
+  pub listing-is : listing b ≡ itemLines (b .«open_year») (items a)
   unfolding listing makerText items
   listing-is =
-      gather-printed _ makers _ (λ m. collect sets (cellItems a m))
-      (λ m hm. gather-printed _ sets _ (cellItems a m) (λ s hs. cell-same m s hm hs))
+      gather-lines _ makers _ (λ m. collect sets (cellItems a m))
+      (λ m hm. gather-lines _ sets _ (cellItems a m) (λ s hs. cell-same m s hm hs))

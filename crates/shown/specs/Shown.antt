@@ -1,5 +1,5 @@
--- Four claims about every input, any bytes whatever, of the terminal that text/specs/Program defines. src/claims.rt holds each to
--- its proof.
+-- Four claims about every input, any bytes whatever, of the terminal that text/specs/Program defines. src/claims.rt
+-- holds each to its proof.
 use Prim.Native.Nat.{ℕ, suc, _+_, _<_, _≤_}
 use mathlib.Core.Bool.{true}
 use mathlib.Core.List.{List, [], _∷_, _++_, map}
@@ -14,6 +14,7 @@ use Rattle.book.specs.Postings.{freshBook, sellerLot, buyerLot, appliedLot, ret
 use Rattle.book.specs.Rules.{posted}
 use Rattle.book.specs.Companions.{acceptedOnly}
 use Rattle.book.specs.Accounts.{Accounts, accountsOf}
+use Rattle.book.specs.Accounts.{bought, sold, applied, retired, covered}
 use Rattle.book.specs.Demand3 as D
 use Rattle.book.specs.Demand3.{isAccepted, history, Reconciled, Demand3}
 use Rattle.book.specs.declared.kinds.Call.{Call}
@@ -25,7 +26,8 @@ use Rattle.text.specs.Lines.{linesOf, answersTo}
 use Rattle.text.specs.Listing.{listing}
 use Rattle.text.specs.Program.{terminal}
 use Rattle.shown.specs.Calls.{calls, answers, answersOf, texts, postings, finalBook}
-use Rattle.shown.specs.Statement.{accountsBy, yearBy, Item, lot, short, items, rank, itemPattern, itemFigures, itemLine, statement}
+use Rattle.shown.specs.Statement.{accountsBy, yearBy, Item, lot, short, items, rank}
+use Rattle.shown.specs.Statement.{itemPattern, itemFigures, itemLine, statement}
 use Rattle.shown.specs.Journal.{journalOf, journal}
 
 -- what a call is answered after some calls
@@ -63,22 +65,22 @@ pub record Demands (input : List ℕ) : Type 0 where
   pub reconciled : (k : Key) → In k → Reconciled (finalBook input) (accountsOf (history freshBook (calls input))) k
 
 -- n Mg are what the accounts leave in a lot of the book, as a sum, so that no difference below zero can hide
-abbrev pub Lot : Accounts → Key → ℕ → Type 0
-Lot a k n = In k × (n + a .sold k + a .applied k + a .retired k ≡ a .earned k + a .bought k)
+abbrev pub LeftInLot : Accounts → Key → ℕ → Type 0
+LeftInLot a k n = In k × (n + a .mg sold k + a .mg applied k + a .mg retired k ≡ a .earned k + a .mg bought k)
 
-abbrev pub Shortage : Accounts → Key → ℕ → Type 0
-Shortage a k n = In k × (n + a .covered k ≡ a .shortfall k)
+abbrev pub LeftShort : Accounts → Key → ℕ → Type 0
+LeftShort a k n = In k × (n + a .mg covered k ≡ a .shortfall k)
 
 -- what a line of the statement says: its Mg are above 0, and they are the accounts' balance
 abbrev pub Says : Accounts → Item → Type 0
-Says a (lot k n) = (0 < n) × Lot a k n
-Says a (short k n) = (0 < n) × Shortage a k n
+Says a (lot k n) = (0 < n) × LeftInLot a k n
+Says a (short k n) = (0 < n) × LeftShort a k n
 
 -- what the answer to a call says by its Mg: they are what the accounts leave in the lot that the call pays from
 abbrev pub Leaves : Accounts → Call → ℕ → Type 0
-Leaves a (Call.Trade t) n = Lot a (sellerLot t) n
-Leaves a (Call.Apply p) n = Lot a (appliedLot p) n
-Leaves a (Call.Retire p) n = Lot a (retiredLot p) n
+Leaves a (Call.Trade t) n = LeftInLot a (sellerLot t) n
+Leaves a (Call.Apply p) n = LeftInLot a (appliedLot p) n
+Leaves a (Call.Retire p) n = LeftInLot a (retiredLot p) n
 Leaves a (Call.File f) n = ⊥
 Leaves a (Call.Close y) n = ⊥
 
@@ -88,7 +90,7 @@ pub record Among (x : Item) (xs : List Item) : Type 0 where
   pub after : List Item
   pub here : xs ≡ before ++ x ∷ after
 
--- a posting that brought Mg into a line: the close of its year, which earned or lacked some there, or for a lot a trade to it
+-- a posting that brought Mg into a line: the close of its year, which earned or lacked some there; for a lot a trade
 abbrev pub Brings : Accounts → Item → Call → Type 0
 Brings a (lot k n) (Call.Close y) = (y ≡ k .year) × (0 < a .earned k)
 Brings a (lot k n) (Call.Trade t) = (buyerLot t ≡ k) × (0 < t .mg)
@@ -114,15 +116,17 @@ abbrev pub Rising : ℕ → List Item → Type 0
 Rising n [] = Unit {0}
 Rising n (x ∷ xs) = (n ≤ rank x) × Rising (suc (rank x)) xs
 
--- what the statement of postings tells, by their accounts: a line stands in it exactly where they say so, so that each line
--- shown has its balance, and each balance above 0 is shown; and each line has a posting behind it
+-- what the statement of postings tells, by their accounts: a line stands in it exactly where they say so, so that each
+-- line shown has its balance, and each balance above 0 is shown; and each line has a posting behind it
 pub record Tells (ps : List Call) : Type 0 where
   pub exactly : (x : Item) → Among x (items (accountsBy ps)) ↔ Says (accountsBy ps) x
   pub rises : Rising 0 (items (accountsBy ps))
   -- and no other items do both
-  pub only : (xs : List Item) → ((x : Item) → Among x xs ↔ Says (accountsBy ps) x) → Rising 0 xs → xs ≡ items (accountsBy ps)
+  pub only :
+      (xs : List Item) → ((x : Item) → Among x xs ↔ Says (accountsBy ps) x) → Rising 0 xs
+      → xs ≡ items (accountsBy ps)
   pub behind : (x : Item) → Among x (items (accountsBy ps)) → One (Brings (accountsBy ps) x) ps
-  -- the items are the text's lines, and the figures that stand in a line, read back as a form's are read, are the item's
+  -- the items are the text's lines, and the figures in a line, read back as a form's are read, are the item's
   pub lines : linesOf (statement ps) ≡ map (itemLine (yearBy ps)) (items (accountsBy ps))
   pub figures :
       (x : Item) → Among x (items (accountsBy ps))
@@ -154,4 +158,5 @@ pub record JournalKept (input : List ℕ) : Type 0 where
   -- cut after a line feed: besides, every line is accepted
   pub cut :
       (p q : List ℕ) → journal input ≡ p ++ lineFeed ∷ q
-      → (n : ℕ) × (p ++ lineFeed ∷ [] ≡ journalOf (take n (postings input))) × Every Accepts (answers (p ++ lineFeed ∷ []))
+      → (n : ℕ) × (p ++ lineFeed ∷ [] ≡ journalOf (take n (postings input)))
+      × Every Accepts (answers (p ++ lineFeed ∷ []))

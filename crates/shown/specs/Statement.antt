@@ -7,6 +7,7 @@ use Rattle.book.specs.Sizes.{makers, sets, years}
 use Rattle.book.specs.Ledger.{Key, key, cell}
 use Rattle.book.specs.Life.{live, openShort}
 use Rattle.book.specs.Accounts.{Accounts, Entry, accountsOf}
+use Rattle.book.specs.Accounts.{bought, sold, applied, retired, covered}
 use Rattle.book.specs.declared.kinds.Call.{Call}
 use Rattle.text.specs.Ascii.{ascii}
 use Rattle.text.specs.Pattern.{filled}
@@ -36,10 +37,10 @@ yearBy ps = yearFrom firstYear ps
 
 -- what a lot and a shortage come to by the accounts. No difference here stops at zero: `Tells .exactly` of Shown
 abbrev pub lotBy : Accounts → Key → ℕ
-lotBy a k = a .earned k + a .bought k - (a .sold k + a .applied k + a .retired k)
+lotBy a k = a .earned k + a .mg bought k - (a .mg sold k + a .mg applied k + a .mg retired k)
 
 abbrev pub shortageBy : Accounts → Key → ℕ
-shortageBy a k = a .shortfall k - a .covered k
+shortageBy a k = a .shortfall k - a .mg covered k
 
 -- a line of the statement: a lot or a shortage, with its Mg
 pub data Item : Type 0 where
@@ -78,7 +79,8 @@ rank (short k n) = cell (k .maker) (k .set) * (years + years) + years + (k .year
 -- a line's form: Y is the open year; a lot shown that is not live is expired, a shortage that is not open is overdue
 abbrev pub itemPattern : ℕ → Item → List ℕ
 itemPattern Y (lot k n) = cond (live Y (k .year)) (ascii "(lot # # # live #)") (ascii "(lot # # # expired #)")
-itemPattern Y (short k n) = cond (openShort Y (k .year)) (ascii "(short # # # open #)") (ascii "(short # # # overdue #)")
+itemPattern Y (short k n) =
+    cond (openShort Y (k .year)) (ascii "(short # # # open #)") (ascii "(short # # # overdue #)")
 
 -- and its figures: maker, set, year, Mg
 abbrev pub itemFigures : Item → List ℕ
@@ -88,10 +90,10 @@ itemFigures (short k n) = k .maker ∷ k .set ∷ k .year ∷ n ∷ []
 unfoldable pub itemLine : ℕ → Item → List ℕ
 itemLine Y x = filled (itemPattern Y x) (itemFigures x)
 
-unfoldable pub printed : ℕ → List Item → List ℕ
-printed Y [] = []
-printed Y (x ∷ xs) = itemLine Y x ++ lineFeed ∷ printed Y xs
+unfoldable pub itemLines : ℕ → List Item → List ℕ
+itemLines Y [] = []
+itemLines Y (x ∷ xs) = itemLine Y x ++ lineFeed ∷ itemLines Y xs
 
 -- what postings come to, printed
 abbrev pub statement : List Call → List ℕ
-statement ps = printed (yearBy ps) (items (accountsBy ps))
+statement ps = itemLines (yearBy ps) (items (accountsBy ps))

@@ -1,5 +1,5 @@
-// Runs the stored sessions: for each name among its arguments, the file of that name is a session's input. Writes a line
-// `== NAME`, then what the session gives. The file `stdout` beside has what the second implementation wrote for the same.
+// Runs the stored sessions: for each name among its arguments, the file of that name is a session's input. Writes a
+// line `== NAME`, then what the session gives. The file `stdout` beside has what the second implementation wrote.
 use libc::STDOUT_FILENO;
 use text::answering::ANSWER_ROOM;
 use text::listing::LISTING_ROOM;

@@ -16,7 +16,7 @@ use Rattle.book.specs.declared.answers.Refusal.{Refusal}
 use Rattle.book.specs.Refusals.{numberOf, refusalIn, valuesIn}
 use Rattle.book.proofs.RefusalLaws.{number-above-0}
 use Rattle.text.specs.Ascii.{ascii}
-use Rattle.text.specs.Pattern.{filled, places}
+use Rattle.text.specs.Pattern.{filled, hashes}
 use Rattle.text.specs.Answers.{saidFor, textOf, answerRoom}
 use Rattle.text.proofs.FillLaws.{filled-length}
 
@@ -43,26 +43,31 @@ filed-plus : (n k : ℕ) → textOf (Answer.Filed (record { 0 = pos n }) k) ≡ 
 unfolding textOf refusalIn valuesIn filled
 filed-plus n k = refl
 
-filed-minus : (n k : ℕ) → textOf (Answer.Filed (record { 0 = negsuc n }) k) ≡ filled (ascii "(ok -# #)\n") (suc n ∷ k ∷ [])
+filed-minus :
+    (n k : ℕ) → textOf (Answer.Filed (record { 0 = negsuc n }) k) ≡ filled (ascii "(ok -# #)\n") (suc n ∷ k ∷ [])
 unfolding textOf refusalIn valuesIn filled
 filed-minus n k = refl
 
 -- a filing's, by the test of its part's sign
 module _ (m k : ℕ) where
-  pub plus : (x : ℤ) → m ≡ natAbs x → ltZ x (pos 0) ≡ false → filled (ascii "(ok # #)\n") (m ∷ k ∷ []) ≡ textOf (Answer.Filed (record { 0 = x }) k)
+  pub plus :
+      (x : ℤ) → m ≡ natAbs x → ltZ x (pos 0) ≡ false → filled (ascii "(ok # #)\n") (m ∷ k ∷ [])
+      ≡ textOf (Answer.Filed (record { 0 = x }) k)
   plus (pos n) e h = rw (e, filed-plus n k)
   plus (negsuc n) e h = absurd (true≢false h)
 
-  pub minus : (x : ℤ) → m ≡ natAbs x → ltZ x (pos 0) ≡ true → filled (ascii "(ok -# #)\n") (m ∷ k ∷ []) ≡ textOf (Answer.Filed (record { 0 = x }) k)
+  pub minus :
+      (x : ℤ) → m ≡ natAbs x → ltZ x (pos 0) ≡ true → filled (ascii "(ok -# #)\n") (m ∷ k ∷ [])
+      ≡ textOf (Answer.Filed (record { 0 = x }) k)
   minus (pos n) e h = absurd (omega (arith, ltb-true n 0 h))
   minus (negsuc n) e h = rw (e, filed-minus n k)
 
 -- ---- no answer's line is longer than its room
-short : (p ns : List ℕ) → T (leb (length p + 20 * places p) answerRoom) → length (filled p ns) ≤ answerRoom
-short p ns t = omega (arith, filled-length p ns, leb→le (length p + 20 * places p) answerRoom t)
+short : (p ns : List ℕ) → T (leb (length p + 20 * hashes p) answerRoom) → length (filled p ns) ≤ answerRoom
+short p ns t = omega (arith, filled-length p ns, leb→le (length p + 20 * hashes p) answerRoom t)
 
 pub text-length : (a : Answer) → length (textOf a) ≤ answerRoom
-unfolding places
+unfolding hashes
 text-length (Answer.Refused r) = rw refused-text (short _ _ tt)
 text-length (Answer.Filed p k) = go (p .0)
   where

@@ -33,7 +33,8 @@ module _ (s : List ℕ) (i : ℕ) where
   unfolding leading
   lead-end h = rw (drop-of-length-le s h)
 
-  pub lead-in : i < length s → digit (getD s i 0) ≡ true → length (leading (drop i s)) ≡ suc (length (leading (drop (suc i) s)))
+  pub lead-in :
+      i < length s → digit (getD s i 0) ≡ true → length (leading (drop i s)) ≡ suc (length (leading (drop (suc i) s)))
   unfolding leading
   lead-in h e = rw (drop-cons s i 0 h, e)
 
@@ -60,7 +61,9 @@ lead-digit (c ∷ s) zero h = go (digit c) h
     go false k = absurd (not-suc-le-zero k)
 lead-digit (c ∷ s) (suc j) h = go (digit c) (lead-digit s j) h
   where
-    go : (b : Bool) → (j < length (leading s) → digit (getD s j 0) ≡ true) → suc j < length (cond b (c ∷ leading s) []) → digit (getD s j 0) ≡ true
+    go :
+        (b : Bool) → (j < length (leading s) → digit (getD s j 0) ≡ true) → suc j < length (cond b (c ∷ leading s) [])
+        → digit (getD s j 0) ≡ true
     go true ih k = ih (le-of-suc-le-suc k)
     go false ih k = absurd (not-suc-le-zero k)
 
@@ -70,7 +73,9 @@ digit-at s at i h k =
     let d : digit (getD (drop at s) (i - at) 0) ≡ true = lead-digit (drop at s) (i - at) (omega arith) in
     rw (← e, ← getD-drop at s (i - at) 0) d
 
-pub worth-step : (s : List ℕ) (v i e : ℕ) → i < e → i < length s → worth v (take (e - i) (drop i s)) ≡ worth (v * 10 + (getD s i 0 - 48)) (take (e - suc i) (drop (suc i) s))
+pub worth-step :
+    (s : List ℕ) (v i e : ℕ) → i < e → i < length s
+    → worth v (take (e - i) (drop i s)) ≡ worth (v * 10 + (getD s i 0 - 48)) (take (e - suc i) (drop (suc i) s))
 unfolding worth
 worth-step s v i e h k =
     let q : e - i ≡ suc (e - suc i) = omega arith in
@@ -93,7 +98,9 @@ unfolding leading
 lead-take [] = refl
 lead-take (c ∷ s) = go (digit c) (lead-take s)
   where
-    go : (b : Bool) → take (length (leading s)) s ≡ leading s → take (length (cond b (c ∷ leading s) [])) (c ∷ s) ≡ cond b (c ∷ leading s) []
+    go :
+        (b : Bool) → take (length (leading s)) s ≡ leading s
+        → take (length (cond b (c ∷ leading s) [])) (c ∷ s) ≡ cond b (c ∷ leading s) []
     go true ih = ap (λ (l : List ℕ). c ∷ l) ih
     go false ih = refl
 
@@ -112,20 +119,36 @@ module _ (most : ℕ) (s : List ℕ) where
   module _ (k : length (leading s) ≤ most) where
     pub none-zero : 1 < length (leading s) → getD s 0 0 ≡ 48 → number most s ≡ Number.Nothing
     unfolding number
-    none-zero h e = rw (lt-ltb 0 (length (leading s)) (omega arith), le-leb (length (leading s)) most k, lt-leb (length (leading s)) 1 h, eq-eqb _ 48 (lead-get s 0 (omega arith) ∙ e))
+    none-zero h e =
+        rw (
+          lt-ltb 0 (length (leading s)) (omega arith),
+          le-leb (length (leading s)) most k,
+          lt-leb (length (leading s)) 1 h,
+          eq-eqb _ 48 (lead-get s 0 (omega arith) ∙ e),
+        )
 
     pub one-digit : length (leading s) ≡ 1 → number most s ≡ Number.Read (value (leading s)) 1
     unfolding number
     one-digit h = rw (le-leb (length (leading s)) most k, h)
 
-    pub more-digits : 1 < length (leading s) → (getD s 0 0 ≡ 48 → ⊥) → number most s ≡ Number.Read (value (leading s)) (length (leading s))
+    pub more-digits :
+        1 < length (leading s) → (getD s 0 0 ≡ 48 → ⊥)
+        → number most s ≡ Number.Read (value (leading s)) (length (leading s))
     unfolding number
-    more-digits h e = rw (lt-ltb 0 (length (leading s)) (omega arith), le-leb (length (leading s)) most k, lt-leb (length (leading s)) 1 h, ne-eqb _ 48 (λ q. e (sym (lead-get s 0 (omega arith)) ∙ q)))
+    more-digits h e =
+        rw (
+          lt-ltb 0 (length (leading s)) (omega arith),
+          le-leb (length (leading s)) most k,
+          lt-leb (length (leading s)) 1 h,
+          ne-eqb _ 48 (λ q. e (sym (lead-get s 0 (omega arith)) ∙ q)),
+        )
 
 pub first-byte : (s : List ℕ) (at : ℕ) → getD (drop at s) 0 0 ≡ getD s at 0
 first-byte s at = getD-drop at s 0 0 ∙ ap (λ (n : ℕ). getD s n 0) (add-zero at)
 
-pub lead-value : (s : List ℕ) (at k v : ℕ) → v ≡ value (take (at + k - at) (drop at s)) → k ≡ length (leading (drop at s)) → v ≡ value (leading (drop at s))
+pub lead-value :
+    (s : List ℕ) (at k v : ℕ) → v ≡ value (take (at + k - at) (drop at s)) → k ≡ length (leading (drop at s))
+    → v ≡ value (leading (drop at s))
 lead-value s at k v e h =
     let q : at + k - at ≡ length (leading (drop at s)) = omega arith in
     let r : v ≡ value (take (length (leading (drop at s))) (drop at s)) = rw q at e in

@@ -1,6 +1,6 @@
 -- Each example by computation.
 use mathlib.Core.Path.{refl}
-use Rattle.book.specs.Refusals.{numberOf, refusalIn, valuesIn}
+use Rattle.book.specs.Refusals.{refusalIn, valuesIn}
 use Rattle.text.specs.Numeral.{leading, worth, value, number, numeralOf}
 use Rattle.text.specs.Pattern.{fit, figures, filled}
 use Rattle.text.specs.Line.{lineAt, lineOf}
@@ -9,7 +9,7 @@ use Rattle.text.specs.Lines.{linesFrom}
 use Rattle.text.specs.Examples.{Run, Edges}
 
 pub run : Run
-unfolding lineOf lineAt figures fit number leading value worth textOf refusalIn valuesIn filled numeralOf numberOf
+unfolding lineOf lineAt figures fit number leading value worth textOf refusalIn valuesIn filled numeralOf
 run =
     record {
       file = refl;

@@ -5,9 +5,10 @@ pub mod NumeralLaws
 pub mod FillLaws
 pub mod CanonLaws
 pub mod RenderLaws
+pub mod FirstFormLaws
 pub mod FormLaws
 pub mod AnswerLaws
-pub mod FeedLaws
+pub mod DeskLaws
 pub mod ServeLaws
 pub mod SessionLaws
 pub mod ListingLaws

@@ -15,13 +15,15 @@ use Rattle.book.specs.declared.listing.LotEntry.{LotEntry}
 use Rattle.book.specs.declared.listing.ShortageEntry.{ShortageEntry}
 use Rattle.text.specs.Pattern.{filled}
 use Rattle.text.specs.Placing.{Stands}
-use Rattle.text.specs.Listing.{entryRoom, lotText, shortageText, gather, lotLine, shortageLine, cellText, makerText}
+use Rattle.text.specs.Listing.{entryRoom, lotText, shortageText, gather, lotLine, shortageLine, cellText}
+use Rattle.text.specs.Listing.{makerText}
 use Rattle.text.proofs.FillLaws.{filled-zeros, filled-digits, numeral-length}
 use Rattle.text.proofs.NumeralLaws.{numeral-short}
 use Rattle.text.proofs.StoreLaws.{as-text, after-text, same-long}
 
 -- ---- one line: a maker, a set and a year are short numbers, and an amount has at most 20 digits
-module _ (p : List ℕ) (m s y mg : ℕ) (hm : m < 10) (hs : s < 10) (hy : y < 10000) (t : T (leb (length p + 26) entryRoom)) where
+module _ (p : List ℕ) (m s y mg : ℕ) (hm : m < 10) (hs : s < 10) (hy : y < 10000)
+    (t : T (leb (length p + 26) entryRoom)) where
   pub entry-length : length (filled p (m ∷ s ∷ y ∷ mg ∷ [])) ≤ entryRoom
   entry-length =
       omega (
@@ -34,15 +36,21 @@ module _ (p : List ℕ) (m s y mg : ℕ) (hm : m < 10) (hs : s < 10) (hy : y < 1
         leb→le (length p + 26) entryRoom t,
       )
 
-  pub entry-room : (at size : ℕ) → at + entryRoom ≤ size → at + length (filled p (m ∷ s ∷ y ∷ mg ∷ 0 ∷ 0 ∷ 0 ∷ 0 ∷ 0 ∷ 0 ∷ 0 ∷ 0 ∷ [])) ≤ size
+  pub entry-room :
+      (at size : ℕ)
+      → at + entryRoom ≤ size → at + length (filled p (m ∷ s ∷ y ∷ mg ∷ 0 ∷ 0 ∷ 0 ∷ 0 ∷ 0 ∷ 0 ∷ 0 ∷ 0 ∷ [])) ≤ size
   entry-room at size h = omega (arith, entry-length, ap length (filled-zeros p (m ∷ s ∷ y ∷ mg ∷ []) 8))
 
 module _ (o : ℕ) (l : List ℕ) (m s i : ℕ) where
-  pub lot-stands : {entry : LotEntry} {at r : ℕ} {out out′ : List ℕ} → entry ≡ lotEntry o l m s (firstYear + i) → Stands (lotText m s (firstYear + i) entry) at out r out′ → Stands (lotLine o l m s i) at out r out′
+  pub lot-stands :
+      {entry : LotEntry} {at r : ℕ} {out out′ : List ℕ} → entry ≡ lotEntry o l m s (firstYear + i)
+      → Stands (lotText m s (firstYear + i) entry) at out r out′ → Stands (lotLine o l m s i) at out r out′
   unfolding lotLine
   lot-stands e h = as-text (ap (lotText m s (firstYear + i)) e) h
 
-  pub shortage-stands : {entry : ShortageEntry} {at r : ℕ} {out out′ : List ℕ} → entry ≡ shortageEntry o l m s (firstYear + i) → Stands (shortageText m s (firstYear + i) entry) at out r out′ → Stands (shortageLine o l m s i) at out r out′
+  pub shortage-stands :
+      {entry : ShortageEntry} {at r : ℕ} {out out′ : List ℕ} → entry ≡ shortageEntry o l m s (firstYear + i)
+      → Stands (shortageText m s (firstYear + i) entry) at out r out′ → Stands (shortageLine o l m s i) at out r out′
   unfolding shortageLine
   shortage-stands e h = as-text (ap (shortageText m s (firstYear + i)) e) h
 
@@ -78,9 +86,12 @@ module _ {f : ℕ → List ℕ} {m : ℕ} {l out : List ℕ} {at w i : ℕ} (g :
   pub out-long : length out ≡ length l
   out-long = same-long (g .stands)
 
-  pub one-more : {w′ : ℕ} {out′ : List ℕ} → length (f i) ≤ m → Stands (f i) w out w′ out′ → Gathered f m l out′ at w′ (i + 1)
+  pub one-more :
+      {w′ : ℕ} {out′ : List ℕ} → length (f i) ≤ m → Stands (f i) w out w′ out′ → Gathered f m l out′ at w′ (i + 1)
   unfolding gather
-  one-more h k = rw (add-one i) (record { stands = after-text (g .stands) k; w-fits = rw suc-mul (omega (arith, g .w-fits, k .end-is)) })
+  one-more h k =
+      rw (add-one i)
+      (record { stands = after-text (g .stands) k; w-fits = rw suc-mul (omega (arith, g .w-fits, k .end-is)) })
 
   pub all-gathered : (n : ℕ) → i ≤ n → n ≤ i → Stands (gather n f) at l w out
   all-gathered n a b = let e : i ≡ n = omega arith in rw (← e) (g .stands)
@@ -88,16 +99,26 @@ module _ {f : ℕ → List ℕ} {m : ℕ} {l out : List ℕ} {at w i : ℕ} (g :
 gather-length : (f : ℕ → List ℕ) (m n : ℕ) → ((i : ℕ) → i < n → length (f i) ≤ m) → length (gather n f) ≤ n * m
 unfolding gather
 gather-length f m zero h = omega arith
-gather-length f m (suc n) h = rw (length-append, suc-mul) (omega (arith, gather-length f m n (λ i l. h i (omega arith)), h n (omega arith)))
+gather-length f m (suc n) h =
+    rw (length-append, suc-mul) (omega (arith, gather-length f m n (λ i l. h i (omega arith)), h n (omega arith)))
 
 -- ---- a cell, and a maker
 module _ (b : Book) (m : ℕ) (hm : m < makers) where
-  pub lots-length : (s : ℕ) → s < sets → length (gather years (lotLine (b .«open_year») (b .lots) m s)) ≤ years * entryRoom
-  lots-length s hs = gather-length (lotLine (b .«open_year») (b .lots) m s) entryRoom years (λ i hi. lot-length _ _ m s i hm hs hi)
+  pub lots-length :
+      (s : ℕ) → s < sets → length (gather years (lotLine (b .«open_year») (b .lots) m s)) ≤ years * entryRoom
+  lots-length s hs =
+      gather-length (lotLine (b .«open_year») (b .lots) m s) entryRoom years (λ i hi. lot-length _ _ m s i hm hs hi)
 
   pub cell-length : (s : ℕ) → s < sets → length (cellText b m s) ≤ years * entryRoom + years * entryRoom
   unfolding cellText
-  cell-length s hs = rw length-append (omega (arith, lots-length s hs, gather-length (shortageLine (b .«open_year») (b .shortages) m s) entryRoom years (λ i hi. shortage-length _ _ m s i hm hs hi)))
+  cell-length s hs =
+      rw length-append
+      (omega (
+        arith,
+        lots-length s hs,
+        gather-length (shortageLine (b .«open_year») (b .shortages) m s) entryRoom years
+            (λ i hi. shortage-length _ _ m s i hm hs hi),
+      ))
 
   pub maker-length : length (makerText b m) ≤ sets * (years * entryRoom + years * entryRoom)
   unfolding makerText

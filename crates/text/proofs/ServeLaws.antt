@@ -1,5 +1,5 @@
--- Laws of a chunk served line by line: `Reading` is the invariant of `next_line`, `Midway` that of `serve`; each way through
--- a loop is one law.
+-- Laws of a chunk served line by line: `Reading` is the invariant of `next_line`, `Midway` that of `serve`; each way
+-- through a loop is one law.
 use Prim.Native.Nat.{ℕ, zero, suc, _+_, _*_, _-_, _≤_, _<_}
 use native.Mathlib.Numerals.{add-one}
 use native.Mathlib.Omega.{arith}
@@ -24,18 +24,24 @@ use Rattle.text.proofs.StoreLaws.{after-text, same-long}
 
 -- ---- a line taken byte by byte
 -- from `start` on, with `count` bytes of `before` held, the bytes up to `taken` have led to this line so far
-pub record Reading (before : List ℕ) (count : ℕ) (chunk : List ℕ) (start : ℕ) (held : List ℕ) (len taken : ℕ) : Type 0 where
+pub record Reading (before : List ℕ) (count : ℕ) (chunk : List ℕ) (start : ℕ) (held : List ℕ)
+    (len taken : ℕ) : Type 0 where
   pub in-chunk : taken ≤ length chunk
   pub onward : start ≤ taken
   pub len-fits : len ≤ mostHeld
   pub held-long : length held ≡ mostHeld
-  pub goes : (b : Book) (said : List ℕ) → takesAll (holdingFirst b before count said) (drop start chunk) ≡ takesAll (holdingFirst b held len said) (drop taken chunk)
+  pub goes :
+      (b : Book) (said : List ℕ) → takesAll (holdingFirst b before count said) (drop start chunk)
+      ≡ takesAll (holdingFirst b held len said) (drop taken chunk)
 
-pub reads : (before : List ℕ) (count : ℕ) (chunk : List ℕ) (start : ℕ) → count ≤ length before → length before ≡ mostHeld → start ≤ length chunk → Reading before count chunk start before count start
+pub reads :
+    (before : List ℕ) (count : ℕ) (chunk : List ℕ) (start : ℕ) → count ≤ length before
+    → length before ≡ mostHeld → start ≤ length chunk → Reading before count chunk start before count start
 reads before count chunk start h e k =
     record { in-chunk = k; onward = omega arith; len-fits = omega arith; held-long = e; goes = λ b said. refl }
 
-module _ {before : List ℕ} {count : ℕ} {chunk : List ℕ} {start : ℕ} {held : List ℕ} {len taken : ℕ} (f : Reading before count chunk start held len taken) where
+module _ {before : List ℕ} {count : ℕ} {chunk : List ℕ} {start : ℕ} {held : List ℕ} {len taken : ℕ}
+    (f : Reading before count chunk start held len taken) where
   pub held-in : len ≤ length held
   held-in = omega (arith, f .len-fits, f .held-long)
 
@@ -50,7 +56,8 @@ module _ {before : List ℕ} {count : ℕ} {chunk : List ℕ} {start : ℕ} {hel
     byte b said = f .goes b said ∙ rw (drop-cons chunk taken 0 here)
 
     pub line-ends : (line : Line) (put : ℕ) → getD chunk taken 0 ≡ lineFeed → line ≡ lineOf (take len held)
-        → NextLine before count chunk start put (record { ended = true; line = line; held = held; len = 0; taken = taken + 1; put = put })
+        → NextLine before count chunk start put
+        (record { ended = true; line = line; held = held; len = 0; taken = taken + 1; put = put })
     unfolding answerTo
     line-ends line put e l =
         record {
@@ -60,20 +67,31 @@ module _ {before : List ℕ} {count : ℕ} {chunk : List ℕ} {start : ℕ} {hel
         }
 
     module _ (other : getD chunk taken 0 ≡ lineFeed → ⊥) where
-      pub byte-held : len < mostHeld → Reading before count chunk start (set held len (getD chunk taken 0)) (len + 1) (taken + 1)
+      pub byte-held :
+          len < mostHeld → Reading before count chunk start (set held len (getD chunk taken 0)) (len + 1) (taken + 1)
       byte-held l =
-          let k : ltb (length (take len held)) mostHeld ≡ true = lt-ltb (length (take len held)) mostHeld (omega (arith, held-count)) in
+          let k : ltb (length (take len held)) mostHeld ≡ true =
+          lt-ltb (length (take len held)) mostHeld (omega (arith, held-count)) in
           record {
             in-chunk = omega arith;
             onward = omega (arith, f .onward);
             len-fits = omega arith;
             held-long = length-set held len (getD chunk taken 0) ∙ f .held-long;
-            goes = λ b said. byte b said ∙ rw (ne-eqb (getD chunk taken 0) lineFeed other, k, add-one len, take-suc-set held len (getD chunk taken 0) (omega (arith, f .held-long)), add-one taken);
+            goes =
+                λ b said. byte b said
+                ∙ rw (
+                  ne-eqb (getD chunk taken 0) lineFeed other,
+                  k,
+                  add-one len,
+                  take-suc-set held len (getD chunk taken 0) (omega (arith, f .held-long)),
+                  add-one taken,
+                );
           }
 
       pub byte-lost : mostHeld ≤ len → Reading before count chunk start held len (taken + 1)
       byte-lost l =
-          let k : ltb (length (take len held)) mostHeld ≡ false = le-ltb (length (take len held)) mostHeld (omega (arith, held-count)) in
+          let k : ltb (length (take len held)) mostHeld ≡ false =
+          le-ltb (length (take len held)) mostHeld (omega (arith, held-count)) in
           record {
             in-chunk = omega arith;
             onward = omega (arith, f .onward);
@@ -82,7 +100,9 @@ module _ {before : List ℕ} {count : ℕ} {chunk : List ℕ} {start : ℕ} {hel
             goes = λ b said. byte b said ∙ rw (ne-eqb (getD chunk taken 0) lineFeed other, k, add-one taken);
           }
 
-  pub chunk-ends : (line : Line) (put : ℕ) → length chunk ≤ taken → NextLine before count chunk start put (record { ended = false; line = line; held = held; len = len; taken = taken; put = put })
+  pub chunk-ends :
+      (line : Line) (put : ℕ) → length chunk ≤ taken → NextLine before count chunk start put
+      (record { ended = false; line = line; held = held; len = len; taken = taken; put = put })
   unfolding takesAll
   chunk-ends line put h =
       record {
@@ -121,13 +141,15 @@ abbrev pub weight : Bool → ℕ → ℕ
 weight true n = suc n
 weight false n = zero
 
-module _ {b₀ : Book} {first : Turn} {chunk out₀ : List ℕ} {b : Book} {t : Turn} {out : List ℕ} (s : Midway b₀ first chunk out₀ b t out) where
+module _ {b₀ : Book} {first : Turn} {chunk out₀ : List ℕ} {b : Book} {t : Turn} {out : List ℕ}
+    (s : Midway b₀ first chunk out₀ b t out) where
   module _ (ended : t .ended ≡ true) where
     -- what `after` asks
     pub asked : (t .len ≤ length (t .held)) × ((t .taken ≤ length chunk) × (t .put + answerRoom ≤ length out))
     asked = (s .len-fits, (s .in-chunk, omega (arith, s .counted ended, s .room, s .in-chunk, same-long (s .stands))))
 
-    module _ {a : Answer} {z : Book} {r : Turn} {out′ : List ℕ} (answered : a ≡ postedLine b (t .line) .answer) (left : z ≡ postedLine b (t .line) .book) (f : After t a chunk out r out′) where
+    module _ {a : Answer} {z : Book} {r : Turn} {out′ : List ℕ} (answered : a ≡ postedLine b (t .line) .answer)
+        (left : z ≡ postedLine b (t .line) .book) (f : After t a chunk out r out′) where
       pub next : Midway b₀ first chunk out₀ z r out′
       next =
           record {
@@ -144,7 +166,9 @@ module _ {b₀ : Book} {first : Turn} {chunk out₀ : List ℕ} {b : Book} {t : 
       pub nearer : weight (r .ended) (length chunk - r .taken) < weight (t .ended) (length chunk - t .taken)
       nearer = rw ended (less (r .ended) (f .next .within .onward))
         where
-          less : (e : Bool) → (e ≡ true → t .taken < r .taken) → weight e (length chunk - r .taken) < suc (length chunk - t .taken)
+          less :
+              (e : Bool) → (e ≡ true → t .taken < r .taken)
+              → weight e (length chunk - r .taken) < suc (length chunk - t .taken)
           less true k = omega (arith, k refl, f .next .within .in-chunk)
           less false k = omega arith
 

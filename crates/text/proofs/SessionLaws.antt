@@ -1,4 +1,4 @@
--- A terminal that is fed an input byte by byte, in whatever chunks, answers the input's lines.
+-- A terminal that takes an input byte by byte, in whatever chunks, answers the input's lines.
 use Prim.Native.Nat.{ℕ, _≤_}
 use native.Mathlib.Omega.{arith}
 use native.Mathlib.Decide.{decLe}
@@ -14,7 +14,7 @@ use Rattle.book.specs.declared.ledger.Book.{Book}
 use Rattle.text.specs.Line.{lineAt, lineOf, longestLine}
 use Rattle.text.specs.Answers.{answerTo, textOf}
 use Rattle.text.specs.Desk.{Terminal, takes, takesAll, ends, answering, holding, terminalIf, mostHeld, lineFeed}
-use Rattle.text.specs.Lines.{linesFrom, lastLine, OneLine, Lines, answersTo, bookAfter}
+use Rattle.text.specs.Lines.{linesFrom, lastLine, OneLine, Lines, answersTo, bookAfterLines}
 use Rattle.text.specs.Listing.{listing}
 use Rattle.text.specs.Program.{terminal, opened, written, inChunks, joined, AnyChunks}
 
@@ -44,7 +44,9 @@ cut-answer b l = rw (cut-line l)
 cut-more : (l : List ℕ) (b : ℕ) → cond (ltb (length (cut l)) mostHeld) (cut l ++ (b ∷ [])) (cut l) ≡ cut (l ++ (b ∷ []))
 cut-more l b = go (decLe (length l) longestLine)
   where
-    go : Dec (length l ≤ longestLine) → cond (ltb (length (cut l)) mostHeld) (cut l ++ (b ∷ [])) (cut l) ≡ cut (l ++ (b ∷ []))
+    go :
+        Dec (length l ≤ longestLine) → cond (ltb (length (cut l)) mostHeld) (cut l ++ (b ∷ [])) (cut l)
+        ≡ cut (l ++ (b ∷ []))
     go (yes h) =
         let a : length (l ++ (b ∷ [])) ≤ mostHeld = rw length-append (omega arith) in
         let c : cut l ≡ l = take-all mostHeld l (omega arith) in
@@ -56,11 +58,13 @@ cut-more l b = go (decLe (length l) longestLine)
 -- ---- a whole input
 -- a terminal that had said `said` has answered some lines, from the book b
 pub record Came (t : Terminal) (b : Book) (said : List ℕ) (ls : List (List ℕ)) : Type 0 where
-  pub book-is : t .book ≡ bookAfter b ls
+  pub book-is : t .book ≡ bookAfterLines b ls
   pub said-is : t .said ≡ said ++ answersTo b ls
 
-comes : (b : Book) (said l s : List ℕ) → Came (ends (takesAll (record { book = b; held = cut l; said = said }) s)) b said (linesFrom l s)
-unfolding takesAll linesFrom answersTo bookAfter
+comes :
+    (b : Book) (said l s : List ℕ) → Came (ends (takesAll (record { book = b; held = cut l; said = said }) s)) b said
+    (linesFrom l s)
+unfolding takesAll linesFrom answersTo bookAfterLines
 comes b said [] [] = record { book-is = refl; said-is = sym (append-nil said) }
 comes b said (x ∷ l) [] =
     rw (lt-ltb 0 (length (cut (x ∷ l))) (omega arith), cut-answer b (x ∷ l)) (record {
@@ -68,17 +72,25 @@ comes b said (x ∷ l) [] =
       said-is = rw (append-nil (textOf (answerTo b (x ∷ l) .answer)));
     })
 comes b said l (x ∷ s) =
-    go (eqb x lineFeed) (comes (answerTo b l .book) (said ++ textOf (answerTo b l .answer)) [] s) (comes b said (l ++ (x ∷ [])) s)
+    go (eqb x lineFeed) (comes (answerTo b l .book) (said ++ textOf (answerTo b l .answer)) [] s)
+    (comes b said (l ++ (x ∷ [])) s)
   where
     t : Terminal
     t = record { book = b; held = cut l; said = said }
 
     go :
         (e : Bool)
-        → Came (ends (takesAll (record { book = answerTo b l .book; held = []; said = said ++ textOf (answerTo b l .answer) }) s)) (answerTo b l .book) (said ++ textOf (answerTo b l .answer)) (linesFrom [] s)
-        → Came (ends (takesAll (record { book = b; held = cut (l ++ (x ∷ [])); said = said }) s)) b said (linesFrom (l ++ (x ∷ [])) s)
-        → Came (ends (takesAll (cond e (answering t) (holding t x)) s)) b said (cond e (l ∷ linesFrom [] s) (linesFrom (l ++ (x ∷ [])) s))
-    go true p q = rw (cut-answer b l) (record { book-is = p .book-is; said-is = p .said-is ∙ append-assoc said (textOf (answerTo b l .answer)) _ })
+        → Came
+        (ends
+        (takesAll (record { book = answerTo b l .book; held = []; said = said ++ textOf (answerTo b l .answer) }) s))
+        (answerTo b l .book) (said ++ textOf (answerTo b l .answer)) (linesFrom [] s)
+        → Came (ends (takesAll (record { book = b; held = cut (l ++ (x ∷ [])); said = said }) s)) b said
+        (linesFrom (l ++ (x ∷ [])) s)
+        → Came (ends (takesAll (cond e (answering t) (holding t x)) s)) b said
+        (cond e (l ∷ linesFrom [] s) (linesFrom (l ++ (x ∷ [])) s))
+    go true p q =
+        rw (cut-answer b l)
+        (record { book-is = p .book-is; said-is = p .said-is ∙ append-assoc said (textOf (answerTo b l .answer)) _ })
     go false p q = rw (cut-more l x) q
 
 -- ---- what a line is
@@ -86,7 +98,8 @@ ended-from : (k l s : List ℕ) → OneLine l → linesFrom k (l ++ lineFeed ∷
 unfolding linesFrom
 ended-from k [] s h = rw (append-nil k)
 ended-from k (x ∷ l) s h =
-    rw (ne-eqb x lineFeed (h .0)) (ended-from (k ++ (x ∷ [])) l s (h .1) ∙ ap (λ (m : List ℕ). m ∷ linesFrom [] s) (append-assoc k (x ∷ []) l))
+    rw (ne-eqb x lineFeed (h .0)) (ended-from (k ++ (x ∷ [])) l s (h .1)
+    ∙ ap (λ (m : List ℕ). m ∷ linesFrom [] s) (append-assoc k (x ∷ []) l))
 
 last-from : (k l : List ℕ) → OneLine l → linesFrom k l ≡ lastLine (k ++ l)
 unfolding linesFrom
@@ -105,7 +118,9 @@ saying a t = record { book = t .book; held = t .held; said = a ++ t .said }
 saying-takes : (a : List ℕ) (t : Terminal) (x : ℕ) → takes (saying a t) x ≡ saying a (takes t x)
 saying-takes a t x = go (eqb x lineFeed)
   where
-    go : (e : Bool) → cond e (answering (saying a t)) (holding (saying a t) x) ≡ saying a (cond e (answering t) (holding t x))
+    go :
+        (e : Bool) → cond e (answering (saying a t)) (holding (saying a t) x)
+        ≡ saying a (cond e (answering t) (holding t x))
     go true = rw (append-assoc a (t .said) (textOf (answerTo (t .book) (t .held) .answer)))
     go false = refl
 
@@ -127,8 +142,11 @@ closing t = ends t .said ++ listing (ends t .book)
 
 closing-said : (t : Terminal) (s : List ℕ) → closing (takesAll t s) ≡ t .said ++ closing (takesAll (written t) s)
 closing-said t s =
-    let e : takesAll t s ≡ saying (t .said) (takesAll (written t) s) = ap (λ (l : List ℕ). takesAll (record { book = t .book; held = t .held; said = l }) s) (sym (append-nil (t .said))) ∙ saying-all (t .said) (written t) s in
-    rw (e, saying-ends (t .said) (takesAll (written t) s)) (append-assoc (t .said) (ends (takesAll (written t) s) .said) (listing (ends (takesAll (written t) s) .book)))
+    let e : takesAll t s ≡ saying (t .said) (takesAll (written t) s) =
+    ap (λ (l : List ℕ). takesAll (record { book = t .book; held = t .held; said = l }) s)
+    (sym (append-nil (t .said))) ∙ saying-all (t .said) (written t) s in
+    rw (e, saying-ends (t .said) (takesAll (written t) s))
+    (append-assoc (t .said) (ends (takesAll (written t) s) .said) (listing (ends (takesAll (written t) s) .book)))
 
 chunked : (t : Terminal) (cs : List (List ℕ)) → inChunks t cs ≡ closing (takesAll t (joined cs))
 unfolding inChunks joined takesAll

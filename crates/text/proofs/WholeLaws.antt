@@ -1,4 +1,5 @@
--- Laws of a whole session in one buffer: texts put into parts of it, the room that answers take, and the three texts in a row.
+-- Laws of a whole session in one buffer: texts put into parts of it, the room that answers take, and the three texts in
+-- a row.
 use Prim.Native.Nat.{ℕ, _+_, _-_, _*_, _/_, _≤_}
 use native.Mathlib.Nat.{zero-add}
 use native.Mathlib.Omega.{arith}
@@ -7,19 +8,20 @@ use mathlib.Core.Path.{_≡_, sym, ap, _∙_}
 use mathlib.Core.List.{List, [], _∷_, _++_, append-nil, append-assoc}
 use lib.Dec.{eqb, leb, ltb}
 use lib.ListN.{length, take, drop, length-append, length-drop, drop-of-length-le}
-use lib.Seq.{sets, sets-eq, take-all, drop-drop}
+use lib.Seq.{sets as overwritten, sets-eq, take-all, drop-drop}
 use borrow.Author.Tests.{le-leb}
 use borrow.Rule.Slice.PartMut.{midOf, postOf, putMid, post-is}
 use Rattle.text.specs.declared.answering.Step.{Step}
 use Rattle.text.specs.declared.desk.Desk.{Desk}
-use Rattle.text.specs.declared.desk.Fed.{Fed}
+use Rattle.text.specs.declared.desk.Reply.{Reply}
 use Rattle.text.specs.Placing.{Stands}
 use Rattle.text.specs.Answers.{answerTo, answerRoom}
-use Rattle.text.specs.Desk.{Terminal, FedBy, Serves, answering, holding, takes, takesAll, ends, terminalIf, atDesk, openDesk, lineFeed}
+use Rattle.text.specs.Desk.{Terminal, RepliedBy, Serves, answering, holding, takes, takesAll, ends, terminalIf}
+use Rattle.text.specs.Desk.{atDesk, openDesk, lineFeed}
 use Rattle.text.specs.Listing.{listing, listingRoom}
 use Rattle.text.specs.Program.{terminal, opened, written, inChunks, joined, sessionRoom}
 use Rattle.text.proofs.AnswerLaws.{text-length}
-use Rattle.text.proofs.FeedLaws.{served}
+use Rattle.text.proofs.DeskLaws.{served}
 use Rattle.text.proofs.SessionLaws.{any-chunks}
 use Rattle.text.proofs.StoreLaws.{after-text, as-text, same-long}
 
@@ -37,15 +39,21 @@ pub lent-room : (n a : ℕ) (l : List ℕ) → a + n ≤ length l → leb n (len
 lent-room n a l h = le-leb n (length (lent a l)) (omega (arith, lent-long a l))
 
 -- a text put at its start stands in the buffer from a on, and ends in it
-pub in-part : {text l part : List ℕ} {a r : ℕ} → a ≤ length l → r ≤ length part → Stands text 0 (lent a l) r part → Stands text a l (a + r) (putMid a (length l - a) l part) × (a + r ≤ length (putMid a (length l - a) l part))
+pub in-part :
+    {text l part : List ℕ} {a r : ℕ} → a ≤ length l → r ≤ length part → Stands text 0 (lent a l) r part
+    → Stands text a l (a + r) (putMid a (length l - a) l part) × (a + r ≤ length (putMid a (length l - a) l part))
 in-part {text} {l} {part} {a} {r} h k s =
     let n : a + length text ≤ length l = omega (arith, s .end-is, same-long s, lent-long a l) in
-    let p : postOf a (length l - a) l ≡ [] = post-is a (length l) l h ∙ drop-of-length-le l {i = length l} (omega arith) in
-    let q : sets (drop a l) 0 text ≡ text ++ drop (0 + length text) (drop a l) = sets-eq text (drop a l) 0 (rw length-drop (omega arith)) in
+    let p : postOf a (length l - a) l ≡ [] =
+    post-is a (length l) l h ∙ drop-of-length-le l {i = length l} (omega arith) in
+    let q : overwritten (drop a l) 0 text ≡ text ++ drop (0 + length text) (drop a l) =
+    sets-eq text (drop a l) 0 (rw length-drop (omega arith)) in
     let w : Stands text a l (a + r) (putMid a (length l - a) l part) =
     record {
       end-is = omega (arith, s .end-is);
-      out-is = rw (s .out-is, lent-is a l, p, append-nil, q, zero-add, drop-drop) (sym (sets-eq text l a n ∙ append-assoc (take a l) text (drop (a + length text) l)));
+      out-is =
+          rw (s .out-is, lent-is a l, p, append-nil, q, zero-add, drop-drop)
+          (sym (sets-eq text l a n ∙ append-assoc (take a l) text (drop (a + length text) l)));
     } in
     (w, omega (arith, same-long w, w .end-is))
 
@@ -70,13 +78,18 @@ ends-length t = go (ltb 0 (length (t .held)))
     go false = omega arith
 
 -- ---- the input in one chunk
-one-chunk : (input : List ℕ) → takesAll opened input .said ++ (ends (written (takesAll opened input)) .said ++ listing (ends (written (takesAll opened input)) .book)) ≡ terminal input
+one-chunk :
+    (input : List ℕ) → takesAll opened input .said
+    ++ (ends (written (takesAll opened input)) .said ++ listing (ends (written (takesAll opened input)) .book))
+    ≡ terminal input
 unfolding inChunks joined
 one-chunk input = any-chunks (input ∷ []) ∙ ap terminal (append-nil input)
 
-module _ (input : List ℕ) {out out₁ : List ℕ} {d : Desk} {f : Fed} (room : sessionRoom (length input) ≤ length out) (begun : d ≡ openDesk) (fed : FedBy (leb (length input) (length out / answerRoom)) d (takesAll (atDesk d) input) out f out₁) where
+module _ (input : List ℕ) {out out₁ : List ℕ} {d : Desk} {f : Reply} (room : sessionRoom (length input) ≤ length out)
+    (begun : d ≡ openDesk)
+    (replied : RepliedBy (leb (length input) (length out / answerRoom)) d (takesAll (atDesk d) input) out f out₁) where
   answers : Serves (takesAll opened input) out f out₁
-  answers = served (le-leb (length input) (length out / answerRoom) (omega arith)) (rw begun at fed)
+  answers = served (le-leb (length input) (length out / answerRoom) (omega arith)) (rw begun at replied)
 
   stands : Stands (takesAll opened input .said) 0 out (f .at) out₁
   stands = record { end-is = answers .at-is ∙ omega arith; out-is = answers .out-is }
@@ -87,12 +100,25 @@ module _ (input : List ℕ) {out out₁ : List ℕ} {d : Desk} {f : Fed} (room :
   left : atDesk (f .desk) ≡ written (takesAll opened input)
   left = rw (answers .book-is, answers .held-is)
 
-  module _ {s : Step} {out₂ : List ℕ} (ended : (s .book ≡ ends (atDesk (f .desk)) .book) × Stands (ends (atDesk (f .desk)) .said) (f .at) out₁ (s .at) out₂) where
+  module _ {s : Step} {out₂ : List ℕ} (ended : (s .book ≡ ends (atDesk (f .desk)) .book)
+      × Stands (ends (atDesk (f .desk)) .said) (f .at) out₁ (s .at) out₂) where
     pub listing-room : s .at + listingRoom ≤ length out₂
-    listing-room = omega (arith, stands .end-is, same-long stands, said-length opened input, ended .1 .end-is, same-long (ended .1), ends-length (atDesk (f .desk)))
+    listing-room =
+        omega (
+          arith,
+          stands .end-is,
+          same-long stands,
+          said-length opened input,
+          ended .1 .end-is,
+          same-long (ended .1),
+          ends-length (atDesk (f .desk)),
+        )
 
-    pub whole : {r : ℕ} {out₃ : List ℕ} → Stands (listing (s .book)) (s .at) out₂ r out₃ → Stands (terminal input) 0 out r out₃
+    pub whole :
+        {r : ℕ} {out₃ : List ℕ} → Stands (listing (s .book)) (s .at) out₂ r out₃ → Stands (terminal input) 0 out r out₃
     whole h =
-        let b : s .book ≡ ends (written (takesAll opened input)) .book = ended .0 ∙ ap (λ (t : Terminal). ends t .book) left in
-        let e : Stands (ends (written (takesAll opened input)) .said) (f .at) out₁ (s .at) out₂ = as-text (ap (λ (t : Terminal). ends t .said) left) (ended .1) in
+        let b : s .book ≡ ends (written (takesAll opened input)) .book =
+        ended .0 ∙ ap (λ (t : Terminal). ends t .book) left in
+        let e : Stands (ends (written (takesAll opened input)) .said) (f .at) out₁ (s .at) out₂ =
+        as-text (ap (λ (t : Terminal). ends t .said) left) (ended .1) in
         as-text (one-chunk input) (after-text stands (after-text e (as-text (ap listing b) h)))

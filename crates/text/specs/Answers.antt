@@ -41,7 +41,8 @@ saidFor (suc n) vs = ascii "(no " ++ (numeral (suc n) ++ ascii ")\n")
 unfoldable pub textOf : Answer → List ℕ
 textOf a = saidFor (refusalIn a) (valuesIn a)
 
--- what a line gives that is read so: the book layer's outcome; or refusal 1, "the line isn't one of the forms", and the book unchanged
+-- what a line gives that is read so: the book layer's outcome; or refusal 1, "the line isn't one of the forms", and
+-- the book unchanged
 abbrev pub postedLine : Book → Line → Posted
 postedLine b Line.NoForm = refusedWith b Refusal.NotAForm
 postedLine b (Line.Form c) = posted b c

@@ -5,11 +5,11 @@ use mathlib.Core.Path.{_≡_}
 use mathlib.Core.List.{List, [], _∷_, _++_}
 use lib.Dec.{ltb, eqb}
 use lib.ListN.{length, take, replicate}
-use lib.Seq.{sets}
+use lib.Seq.{sets as overwritten}
 use Rattle.book.specs.declared.ledger.Book.{Book}
 use Rattle.book.specs.Postings.{freshBook}
 use Rattle.text.specs.declared.desk.Desk.{Desk}
-use Rattle.text.specs.declared.desk.Fed.{Fed}
+use Rattle.text.specs.declared.desk.Reply.{Reply}
 use Rattle.text.specs.Answers.{textOf, answerTo}
 
 -- a terminal: its book, the bytes of the line that has not ended yet, and what it has said
@@ -28,7 +28,12 @@ lineFeed = 10
 
 -- a byte that goes on with a line
 abbrev pub holding : Terminal → ℕ → Terminal
-holding t b = record { book = t .book; held = cond (ltb (length (t .held)) mostHeld) (t .held ++ (b ∷ [])) (t .held); said = t .said }
+holding t b =
+    record {
+      book = t .book;
+      held = cond (ltb (length (t .held)) mostHeld) (t .held ++ (b ∷ [])) (t .held);
+      said = t .said;
+    }
 
 -- the end of a line
 abbrev pub answering : Terminal → Terminal
@@ -66,38 +71,39 @@ abbrev pub openDesk : Desk
 openDesk = record { book = freshBook; held = replicate mostHeld 0; len = 0 }
 
 -- the desk after a call is a terminal's, and the buffer starts with what the terminal has said
-pub record Serves (t : Terminal) (out : List ℕ) (r : Fed) (out′ : List ℕ) : Type 0 where
+pub record Serves (t : Terminal) (out : List ℕ) (r : Reply) (out′ : List ℕ) : Type 0 where
   pub book-is : r .desk .book ≡ t .book
   pub held-is : take (r .desk .len) (r .desk .held) ≡ t .held
   pub at-is : r .at ≡ length (t .said)
-  pub out-is : out′ ≡ sets out 0 (t .said)
+  pub out-is : out′ ≡ overwritten out 0 (t .said)
   -- so what was said can be lent: `&out[..at]`
   pub at-in : r .at ≤ length out′
   pub at-counts : r .at ≡ length (take (r .at) out′)
 
--- the contract of `feed` and of `last`: with room for the answers, the terminal t, and the desk's len counts what it holds;
--- without, the desk and the buffer as they were
-pub record FedBy (room : Bool) (d : Desk) (t : Terminal) (out : List ℕ) (r : Fed) (out′ : List ℕ) : Type 0 where
+-- the contract of `take_in` and of `last`: with room for the answers, the terminal t, and the desk's len counts what it
+-- holds; without, the desk and the buffer as they were
+pub record RepliedBy (room : Bool) (d : Desk) (t : Terminal) (out : List ℕ) (r : Reply) (out′ : List ℕ) : Type 0 where
   pub fits-is : r .fits ≡ room
   pub serves : Serves (terminalIf room t (atDesk d)) out r out′
   pub kept : room ≡ false → r .desk ≡ d
   pub len-is : room ≡ true → r .desk .len ≡ length (t .held)
 
--- ---- desks are compared by what they hold: FedBy leaves the bytes of a desk's array past its len free
+-- ---- desks are compared by what they hold: RepliedBy leaves the bytes of a desk's array past its len free
 -- two calls gave the same: whether there was room, what was said, and desks that hold the same
-pub record SameFed (r : Fed) (out₁ : List ℕ) (s : Fed) (out₂ : List ℕ) : Type 0 where
+pub record SameReply (r : Reply) (out₁ : List ℕ) (s : Reply) (out₂ : List ℕ) : Type 0 where
   pub same-fits : r .fits ≡ s .fits
   pub same-at : r .at ≡ s .at
   pub same-out : out₁ ≡ out₂
   pub same-held : atDesk (r .desk) ≡ atDesk (s .desk)
   pub same-len : r .fits ≡ true → r .desk .len ≡ s .desk .len
 
--- two desks that hold the same, fed the same chunk into the same buffer, or ended, give the same, and hold the same again: so
--- what lies past len shows nowhere, ever. t is what the call makes of a terminal: `takesAll` a chunk, or `ends`
+-- two desks that hold the same, given the same chunk and the same buffer, or ended, give the same, and hold the same
+-- again: so what lies past len shows nowhere, ever. t is what the call makes of a terminal: `takesAll`, or `ends`
 abbrev pub ByWhatIsHeld : Type 0
 ByWhatIsHeld =
-    (room : Bool) (t : Terminal → Terminal) (d e : Desk) (out : List ℕ) (r : Fed) (out₁ : List ℕ) (s : Fed) (out₂ : List ℕ)
+    (room : Bool) (t : Terminal → Terminal) (d e : Desk) (out : List ℕ)
+    (r : Reply) (out₁ : List ℕ) (s : Reply) (out₂ : List ℕ)
     → atDesk d ≡ atDesk e
-    → FedBy room d (t (atDesk d)) out r out₁
-    → FedBy room e (t (atDesk e)) out s out₂
-    → SameFed r out₁ s out₂
+    → RepliedBy room d (t (atDesk d)) out r out₁
+    → RepliedBy room e (t (atDesk e)) out s out₂
+    → SameReply r out₁ s out₂

@@ -1,9 +1,10 @@
--- A line of each form and an answer of each kind, from document 01's run (credit_book's stored test has the run whole), and
--- what lies at the edges of a form.
+-- A line of each form and an answer of each kind, from document 01's run (credit_book's stored test has the run whole),
+-- and what lies at the edges of a form.
 use Prim.Native.Nat.{ℕ}
 use mathlib.Core.Path.{_≡_}
 use mathlib.Core.List.{List, [], _∷_, _++_}
-use lib.IntN.{pos, negsuc}
+use lib.IntN.{pos}
+use Rattle.figuring.specs.Units.{neg}
 use lib.ListN.{replicate}
 use Rattle.book.specs.declared.kinds.Call.{Call}
 use Rattle.book.specs.declared.answers.Answer.{Answer}
@@ -26,13 +27,31 @@ NoForm s = lineOf s ≡ Line.NoForm
 
 -- from the paper's input and output
 pub record Run : Type 0 where
-  pub file : ascii "(file (maker 0) (set 3) (year 2014) (use 1) (family 0) (fcl 465) (cf 28000) (volume 1000) (life 435))" reads Call.File (record { maker = 0; set = 3; year = 2014; «vehicle_use» = 1; family = 0; fcl = 465; cf = 28000; volume = 1000; life = 435 })
+  pub file :
+      ascii "(file (maker 0) (set 3) (year 2014) (use 1) (family 0) (fcl 465) (cf 28000) (volume 1000) (life 435))"
+      reads Call.File (record {
+        maker = 0;
+        set = 3;
+        year = 2014;
+        «vehicle_use» = 1;
+        family = 0;
+        fcl = 465;
+        cf = 28000;
+        volume = 1000;
+        life = 435;
+      })
   pub close : ascii "(close (year 2014))" reads Call.Close 2014
-  pub trade : ascii "(trade (from 0) (to 1) (set 3) (vintage 2014) (mg 200))" reads Call.Trade (record { from = 0; to = 1; set = 3; vintage = 2014; mg = 200 })
-  pub apply : ascii "(apply (maker 1) (set 3) (vintage 2014) (year 2014) (mg 261))" reads Call.Apply (record { maker = 1; set = 3; vintage = 2014; year = 2014; mg = 261 })
-  pub retire : ascii "(retire (maker 1) (set 3) (vintage 2014) (mg 1))" reads Call.Retire (record { maker = 1; set = 3; vintage = 2014; mg = 1 })
+  pub trade :
+      ascii "(trade (from 0) (to 1) (set 3) (vintage 2014) (mg 200))"
+      reads Call.Trade (record { from = 0; to = 1; set = 3; vintage = 2014; mg = 200 })
+  pub apply :
+      ascii "(apply (maker 1) (set 3) (vintage 2014) (year 2014) (mg 261))"
+      reads Call.Apply (record { maker = 1; set = 3; vintage = 2014; year = 2014; mg = 261 })
+  pub retire :
+      ascii "(retire (maker 1) (set 3) (vintage 2014) (mg 1))"
+      reads Call.Retire (record { maker = 1; set = 3; vintage = 2014; mg = 1 })
   pub filed : textOf (Answer.Filed (record { 0 = pos 121800000000 }) 1) ≡ ascii "(ok 121800000000 1)\n"
-  pub filed-minus : textOf (Answer.Filed (record { 0 = negsuc 2609999999 }) 1) ≡ ascii "(ok -2610000000 1)\n"
+  pub filed-minus : textOf (Answer.Filed (record { 0 = neg 2610000000 }) 1) ≡ ascii "(ok -2610000000 1)\n"
   pub closed : textOf (Answer.Closed 1) ≡ ascii "(ok 1)\n"
   pub left : textOf (Answer.Left (record { 0 = 11980 })) ≡ ascii "(ok 11980)\n"
   pub refused : textOf (Answer.Refused Refusal.AboveLot) ≡ ascii "(no 15)\n"

@@ -22,42 +22,81 @@ pub record Form : Type 0 where
   pub pattern : List ℕ
   pub call : List ℕ → Call
 
-abbrev pub at : List ℕ → ℕ → ℕ
-at n i = getD n i 0
+abbrev pub figure : List ℕ → ℕ → ℕ
+figure n i = getD n i 0
 
 abbrev pub file : Form
 file =
     record {
       pattern = ascii "(file (maker #) (set #) (year #) (use #) (family #) (fcl #) (cf #) (volume #) (life #))";
-      call = λ n. Call.File (record { maker = at n 0; set = at n 1; year = at n 2; «vehicle_use» = at n 3; family = at n 4; fcl = at n 5; cf = at n 6; volume = at n 7; life = at n 8 });
+      call =
+          λ n. Call.File (record {
+            maker = figure n 0;
+            set = figure n 1;
+            year = figure n 2;
+            «vehicle_use» = figure n 3;
+            family = figure n 4;
+            fcl = figure n 5;
+            cf = figure n 6;
+            volume = figure n 7;
+            life = figure n 8;
+          });
     }
 
 abbrev pub close : Form
-close = record { pattern = ascii "(close (year #))"; call = λ n. Call.Close (at n 0) }
+close = record { pattern = ascii "(close (year #))"; call = λ n. Call.Close (figure n 0) }
 
 abbrev pub trade : Form
 trade =
     record {
       pattern = ascii "(trade (from #) (to #) (set #) (vintage #) (mg #))";
-      call = λ n. Call.Trade (record { from = at n 0; to = at n 1; set = at n 2; vintage = at n 3; mg = at n 4 });
+      call =
+          λ n. Call.Trade (record {
+            from = figure n 0;
+            to = figure n 1;
+            set = figure n 2;
+            vintage = figure n 3;
+            mg = figure n 4;
+          });
     }
 
 abbrev pub apply : Form
 apply =
     record {
       pattern = ascii "(apply (maker #) (set #) (vintage #) (year #) (mg #))";
-      call = λ n. Call.Apply (record { maker = at n 0; set = at n 1; vintage = at n 2; year = at n 3; mg = at n 4 });
+      call =
+          λ n. Call.Apply (record {
+            maker = figure n 0;
+            set = figure n 1;
+            vintage = figure n 2;
+            year = figure n 3;
+            mg = figure n 4;
+          });
     }
 
 abbrev pub retire : Form
 retire =
     record {
       pattern = ascii "(retire (maker #) (set #) (vintage #) (mg #))";
-      call = λ n. Call.Retire (record { maker = at n 0; set = at n 1; vintage = at n 2; mg = at n 3 });
+      call =
+          λ n. Call.Retire (record { maker = figure n 0; set = figure n 1; vintage = figure n 2; mg = figure n 3 });
     }
 
+-- the forms from one on, in the order in which they are tried
+abbrev pub fromRetire : List Form
+fromRetire = retire ∷ []
+
+abbrev pub fromApply : List Form
+fromApply = apply ∷ fromRetire
+
+abbrev pub fromTrade : List Form
+fromTrade = trade ∷ fromApply
+
+abbrev pub fromClose : List Form
+fromClose = close ∷ fromTrade
+
 abbrev pub forms : List Form
-forms = file ∷ close ∷ trade ∷ apply ∷ retire ∷ []
+forms = file ∷ fromClose
 
 abbrev pub lineIf : Bool → Line → Line → Line
 lineIf true a b = a
@@ -70,8 +109,8 @@ firstForm (f ∷ fs) s =
     let r = figures mostDigits (f .pattern) s in
     lineIf (r .fits) (Line.Form (f .call (r .n))) (firstForm fs s)
 
--- what stands from a place of a line on, to the line's end. The limit is the line's: a longer one is no form "as a whole",
--- wherever it is read from
+-- what stands from a place of a line on, to the line's end. The limit is the line's: a longer one is no form
+-- "as a whole", wherever it is read from
 unfoldable pub lineAt : List ℕ → ℕ → Line
 lineAt s place = lineIf (ltb longestLine (length s)) Line.NoForm (firstForm forms (drop place s))
 

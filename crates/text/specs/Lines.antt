@@ -37,6 +37,6 @@ answersTo b [] = []
 answersTo b (l ∷ ls) = textOf (answerTo b l .answer) ++ answersTo (answerTo b l .book) ls
 
 -- the book after them
-unfoldable pub bookAfter : Book → List (List ℕ) → Book
-bookAfter b [] = b
-bookAfter b (l ∷ ls) = bookAfter (answerTo b l .book) ls
+unfoldable pub bookAfterLines : Book → List (List ℕ) → Book
+bookAfterLines b [] = b
+bookAfterLines b (l ∷ ls) = bookAfterLines (answerTo b l .book) ls

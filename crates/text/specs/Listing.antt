@@ -1,6 +1,6 @@
--- Document 01: "then lists the cells, maker before set, in rising order: for each cell the lots above 0, then its shortages
--- above 0, by year, as maker, set, year, state (live or expired; open or overdue), Mg". What there is to show of a cell and
--- a year is the book layer's to say.
+-- Document 01: "then lists the cells, maker before set, in rising order: for each cell the lots above 0, then its
+-- shortages above 0, by year, as maker, set, year, state (live or expired; open or overdue), Mg". What there is to show
+-- of a cell and a year is the book layer's to say.
 use Prim.Native.Nat.{ℕ, zero, suc, _+_, _*_}
 use mathlib.Core.List.{List, [], _∷_, _++_}
 use Rattle.figuring.specs.Years.{firstYear}
@@ -45,7 +45,8 @@ shortageLine o l m s i = shortageText m s (firstYear + i) (shortageEntry o l m s
 
 unfoldable pub cellText : Book → ℕ → ℕ → List ℕ
 cellText b m s =
-    gather years (lotLine (b .«open_year») (b .lots) m s) ++ gather years (shortageLine (b .«open_year») (b .shortages) m s)
+    gather years (lotLine (b .«open_year») (b .lots) m s)
+    ++ gather years (shortageLine (b .«open_year») (b .shortages) m s)
 
 unfoldable pub makerText : Book → ℕ → List ℕ
 makerText b m = gather sets (cellText b m)

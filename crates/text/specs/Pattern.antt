@@ -5,7 +5,7 @@ use mathlib.Core.Option.{Option, none, some}
 use mathlib.Core.List.{List, [], _∷_, _++_}
 use lib.Dec.{eqb}
 use lib.ListN.{getD, drop, replicate}
-use lib.Seq.{sets}
+use lib.Seq.{sets as overwritten}
 use Rattle.text.specs.declared.numbers.Number.{Number}
 use Rattle.text.specs.declared.patterns.Figures.{Figures}
 use Rattle.text.specs.Numeral.{number, numeral}
@@ -15,8 +15,8 @@ abbrev pub hash : ℕ
 hash = 35
 
 -- a form's figures stand in an array of this length
-abbrev pub mostPlaces : ℕ
-mostPlaces = 12
+abbrev pub mostFigures : ℕ
+mostFigures = 12
 
 -- ---- reading
 abbrev pub onNumber : Number → (ℕ → ℕ → Option (List ℕ)) → Option (List ℕ)
@@ -27,29 +27,29 @@ abbrev pub onByte : ℕ → List ℕ → (List ℕ → Option (List ℕ)) → Op
 onByte p [] f = none
 onByte p (c ∷ s) f = cond (eqb c p) (f s) none
 
-abbrev pub after : List ℕ → Option (List ℕ) → Option (List ℕ)
-after ns none = none
-after ns (some ms) = some (ns ++ ms)
+abbrev pub prepended : List ℕ → Option (List ℕ) → Option (List ℕ)
+prepended ns none = none
+prepended ns (some ms) = some (ns ++ ms)
 
 -- the numbers, of at most `most` digits, that stand in a text where a pattern has #, if the text fits the pattern whole
 unfoldable pub fit : ℕ → List ℕ → List ℕ → Option (List ℕ)
 fit most [] [] = some []
 fit most [] (c ∷ s) = none
 fit most (p ∷ ps) s =
-    cond (eqb p hash) (onNumber (number most s) (λ v k. after (v ∷ []) (fit most ps (drop k s))))
+    cond (eqb p hash) (onNumber (number most s) (λ v k. prepended (v ∷ []) (fit most ps (drop k s))))
     (onByte p s (λ r. fit most ps r))
 
 -- how many # a pattern has
-unfoldable pub places : List ℕ → ℕ
-places [] = 0
-places (p ∷ ps) = cond (eqb p hash) (suc (places ps)) (places ps)
+unfoldable pub hashes : List ℕ → ℕ
+hashes [] = 0
+hashes (p ∷ ps) = cond (eqb p hash) (suc (hashes ps)) (hashes ps)
 
 -- the numbers in an array, 0 after the last
 abbrev pub padded : List ℕ → List ℕ
-padded ns = sets (replicate mostPlaces 0) 0 ns
+padded ns = overwritten (replicate mostFigures 0) 0 ns
 
 abbrev pub figuresOf : Option (List ℕ) → Figures
-figuresOf none = record { fits = false; n = replicate mostPlaces 0 }
+figuresOf none = record { fits = false; n = replicate mostFigures 0 }
 figuresOf (some ns) = record { fits = true; n = padded ns }
 
 unfoldable pub figures : ℕ → List ℕ → List ℕ → Figures

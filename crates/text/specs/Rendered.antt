@@ -16,7 +16,8 @@ formOf (Call.Apply x) = apply
 formOf (Call.Retire x) = retire
 
 abbrev pub figuresIn : Call → List ℕ
-figuresIn (Call.File x) = x .maker ∷ x .set ∷ x .year ∷ x .«vehicle_use» ∷ x .family ∷ x .fcl ∷ x .cf ∷ x .volume ∷ x .life ∷ []
+figuresIn (Call.File x) =
+    x .maker ∷ x .set ∷ x .year ∷ x .«vehicle_use» ∷ x .family ∷ x .fcl ∷ x .cf ∷ x .volume ∷ x .life ∷ []
 figuresIn (Call.Close x) = x ∷ []
 figuresIn (Call.Trade x) = x .from ∷ x .to ∷ x .set ∷ x .vintage ∷ x .mg ∷ []
 figuresIn (Call.Apply x) = x .maker ∷ x .set ∷ x .vintage ∷ x .year ∷ x .mg ∷ []

@@ -27,12 +27,14 @@ pub record Within (chunk : List ℕ) (start : ℕ) (t : Turn) : Type 0 where
   pub onward : t .ended ≡ true → start < t .taken
   pub in-chunk : t .taken ≤ length chunk
 
--- the contract of `next_line`: whatever the book and whatever was said, the terminal that takes the chunk from `start` on comes
--- to what the turn says
+-- the contract of `next_line`: whatever the book and whatever was said, the terminal that takes the chunk from `start`
+-- on comes to what the turn says
 pub record NextLine (held : List ℕ) (len : ℕ) (chunk : List ℕ) (start put : ℕ) (t : Turn) : Type 0 where
   pub within : Within chunk start t
   pub put-is : t .put ≡ put
-  pub goes : (b : Book) (said : List ℕ) → takesAll (holdingFirst b held len said) (drop start chunk) ≡ goesOn b said chunk t
+  pub goes :
+      (b : Book) (said : List ℕ)
+      → takesAll (holdingFirst b held len said) (drop start chunk) ≡ goesOn b said chunk t
 
 -- the contract of `after`: the answer's text is put, and the next line read
 pub record After (t : Turn) (a : Answer) (chunk out : List ℕ) (r : Turn) (out′ : List ℕ) : Type 0 where

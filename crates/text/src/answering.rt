@@ -37,7 +37,8 @@ pub fn answer_line(book: Book, line: &[u8]) -> Posted
 
 // A line that has been read, answered in place. A line that is no form leaves the book untouched.
 pub fn line_in(book: &mut Book, line: Line) -> Answer
-    ensures { λ a. ⌜ (a ≡ postedLine (now (book .entry)) line .answer) × (now (book .exit) ≡ postedLine (now (book .entry)) line .book) ⌝ }
+    ensures { λ a. ⌜ (a ≡ postedLine (now (book .entry)) line .answer)
+        × (now (book .exit) ≡ postedLine (now (book .entry)) line .book) ⌝ }
 {
     match line {
         Line::NoForm => Answer::Refused(Refusal::NotAForm),
@@ -48,7 +49,8 @@ pub fn line_in(book: &mut Book, line: Line) -> Answer
 // Puts the answer to a filing: its part, a negative one with its minus, and its count.
 fn put_filed(out: &mut [u8], at: usize, part: i64, k: u64) -> usize
     requires { ⌜ at + answerRoom ≤ length (now out) ⌝ }
-    ensures { λ r. ⌜ Stands (textOf (Answer.Filed (record { 0 = part }) k)) at (now (out .entry)) r (now (out .exit)) ⌝ }
+    ensures { λ r. ⌜ Stands (textOf (Answer.Filed (record { 0 = part }) k)) at
+        (now (out .entry)) r (now (out .exit)) ⌝ }
 {
     let m = size_of(part);
     if part < 0 {
@@ -83,7 +85,8 @@ pub(crate) fn write_answer(out: &mut [u8], at: usize, answer: Answer) -> usize
 
 // Puts an answer's line into any buffer from any place on. Where it does not fit, out is as it was.
 pub fn put_answer(out: &mut [u8], at: usize, answer: Answer) -> Placed
-    ensures { λ r. ⌜ Puts (roomFor (length (textOf answer)) at (now (out .entry))) (textOf answer) at (now (out .entry)) r (now (out .exit)) ⌝ }
+    ensures { λ r. ⌜ Puts (roomFor (length (textOf answer)) at (now (out .entry))) (textOf answer) at
+        (now (out .entry)) r (now (out .exit)) ⌝ }
 {
     let mut text = [0u8; ANSWER_ROOM];
     let n = write_answer(&mut text, 0, answer);

@@ -1,5 +1,5 @@
-// The claims of the text layer, each a function whose contract is the statement of specs/ for all its arguments. A theorem that
-// goes missing or is weakened leaves its function here unproved, so the gate holds it.
+// The claims of the text layer, each a function whose contract is the statement of specs/ for all its arguments. A
+// theorem that goes missing or is weakened leaves its function here unproved, so the gate holds it.
 ghost use mathlib.Core.Bool.{true};
 ghost use mathlib.Core.Path.{_≡_};
 ghost use Rattle.text.specs.Answers.{ByText};
@@ -9,8 +9,8 @@ ghost use Rattle.text.specs.Lines.{Lines};
 ghost use Rattle.text.specs.Program.{AnyChunks};
 ghost use Rattle.text.specs.Rendered.{Reads};
 
-// A line is read as a call exactly where it is that call's text, of at most 160 bytes and with figures of at most 12 digits;
-// any other line is no form.
+// A line is read as a call exactly where it is that call's text, of at most 160 bytes and with figures of at most 12
+// digits; any other line is no form.
 pub fn calls_by_their_text() -> bool
     ensures { λ r. ⌜ (r ≡ true) × Reads ⌝ }
 {

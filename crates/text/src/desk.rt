@@ -5,7 +5,7 @@ ghost use Prim.Native.Nat.{_*_, _/_, _≤_, min};
 ghost use lib.Dec.{leb};
 ghost use lib.ListN.{length};
 ghost use Rattle.text.specs.Answers.{answerRoom};
-ghost use Rattle.text.specs.Desk.{FedBy, atDesk, ends, mostHeld, openDesk, takesAll};
+ghost use Rattle.text.specs.Desk.{RepliedBy, atDesk, ends, mostHeld, openDesk, takesAll};
 use crate::answering::ANSWER_ROOM;
 use crate::answering::answer_into;
 use crate::serving::MOST_HELD;
@@ -14,8 +14,8 @@ use crate::serving::serve;
 use book::ledger::Book;
 use book::ledger::fresh;
 
-// The book, and the first len bytes of a line that has not ended yet. What lies past len is nobody's: a call may leave anything
-// there, and `ByWhatIsHeld` says that it shows nowhere, so two desks are compared by what they hold.
+// The book, and the first len bytes of a line that has not ended yet. What lies past len is nobody's: a call may leave
+// anything there, and `ByWhatIsHeld` says that it shows nowhere, so two desks are compared by what they hold.
 pub struct Desk {
     pub book: Book,
     pub held: [u8; MOST_HELD],
@@ -23,7 +23,7 @@ pub struct Desk {
 }
 
 // Whether out had the room; the desk after it, and how many bytes of answers stand at out's start.
-pub struct Fed {
+pub struct Reply {
     pub fits: bool,
     pub desk: Desk,
     pub at: usize,
@@ -42,11 +42,12 @@ pub fn open_desk() -> Desk
 
 // The next bytes of the input: each line that ends in them is answered, with the book that the one before left.
 // out has room if it has ANSWER_ROOM bytes for each byte of the chunk; if not, nothing is done.
-pub fn feed(desk: Desk, chunk: &[u8], out: &mut [u8]) -> Fed
-    ensures { λ r. ⌜ FedBy (leb (length (now (chunk .entry))) (length (now (out .entry)) / answerRoom)) desk (takesAll (atDesk desk) (now (chunk .entry))) (now (out .entry)) r (now (out .exit)) ⌝ }
+pub fn take_in(desk: Desk, chunk: &[u8], out: &mut [u8]) -> Reply
+    ensures { λ r. ⌜ RepliedBy (leb (length (now (chunk .entry))) (length (now (out .entry)) / answerRoom)) desk
+        (takesAll (atDesk desk) (now (chunk .entry))) (now (out .entry)) r (now (out .exit)) ⌝ }
 {
     if out.len() / ANSWER_ROOM < chunk.len() {
-        return Fed {
+        return Reply {
             fits: false,
             desk,
             at: 0,
@@ -56,11 +57,12 @@ pub fn feed(desk: Desk, chunk: &[u8], out: &mut [u8]) -> Fed
 }
 
 // The end of the input: a last line that lacks its line feed is answered. out has room if it has ANSWER_ROOM bytes.
-pub fn last(desk: Desk, out: &mut [u8]) -> Fed
-    ensures { λ r. ⌜ FedBy (leb answerRoom (length (now (out .entry)))) desk (ends (atDesk desk)) (now (out .entry)) r (now (out .exit)) ⌝ }
+pub fn last(desk: Desk, out: &mut [u8]) -> Reply
+    ensures { λ r. ⌜ RepliedBy (leb answerRoom (length (now (out .entry)))) desk (ends (atDesk desk))
+        (now (out .entry)) r (now (out .exit)) ⌝ }
 {
     if out.len() < ANSWER_ROOM {
-        return Fed {
+        return Reply {
             fits: false,
             desk,
             at: 0,
@@ -76,9 +78,10 @@ fn held_count(len: usize) -> usize
     if len < MOST_HELD { len } else { MOST_HELD }
 }
 
-fn take_chunk(desk: Desk, chunk: &[u8], out: &mut [u8]) -> Fed
+fn take_chunk(desk: Desk, chunk: &[u8], out: &mut [u8]) -> Reply
     requires { ⌜ answerRoom * length (now chunk) ≤ length (now out) ⌝ }
-    ensures { λ r. ⌜ FedBy true desk (takesAll (atDesk desk) (now (chunk .entry))) (now (out .entry)) r (now (out .exit)) ⌝ }
+    ensures { λ r. ⌜ RepliedBy true desk (takesAll (atDesk desk) (now (chunk .entry)))
+        (now (out .entry)) r (now (out .exit)) ⌝ }
 {
     let held = desk.held;
     let first = next_line(held, held_count(desk.len), chunk, 0, 0);
@@ -87,7 +90,7 @@ fn take_chunk(desk: Desk, chunk: &[u8], out: &mut [u8]) -> Fed
     let t = s.turn;
     let b = s.book;
     let h = t.held;
-    Fed {
+    Reply {
         fits: true,
         desk: Desk {
             book: b,
@@ -98,15 +101,15 @@ fn take_chunk(desk: Desk, chunk: &[u8], out: &mut [u8]) -> Fed
     }
 }
 
-fn take_last(desk: Desk, out: &mut [u8]) -> Fed
+fn take_last(desk: Desk, out: &mut [u8]) -> Reply
     requires { ⌜ answerRoom ≤ length (now out) ⌝ }
-    ensures { λ r. ⌜ FedBy true desk (ends (atDesk desk)) (now (out .entry)) r (now (out .exit)) ⌝ }
+    ensures { λ r. ⌜ RepliedBy true desk (ends (atDesk desk)) (now (out .entry)) r (now (out .exit)) ⌝ }
 {
     let book = desk.book;
     let held = desk.held;
     let len = held_count(desk.len);
     if len == 0 {
-        return Fed {
+        return Reply {
             fits: true,
             desk: Desk { book, held, len },
             at: 0,
@@ -114,7 +117,7 @@ fn take_last(desk: Desk, out: &mut [u8]) -> Fed
     }
     let s = answer_into(book, &held[..len], out, 0);
     let b = s.book;
-    Fed {
+    Reply {
         fits: true,
         desk: Desk {
             book: b,

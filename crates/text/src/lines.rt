@@ -1,7 +1,8 @@
 // The five forms of document 01: a line to a call.
 ghost use mathlib.Core.Path.{_≡_};
-ghost use Rattle.text.specs.Line.{lineAt, firstForm, forms, file, close, trade, apply, retire};
-use crate::patterns::MOST_PLACES;
+ghost use Rattle.text.specs.Line.{file, close, trade, apply, retire};
+ghost use Rattle.text.specs.Line.{forms, fromClose, fromTrade, fromApply, fromRetire, firstForm, lineAt};
+use crate::patterns::MOST_FIGURES;
 use crate::patterns::fitted;
 use book::kinds::Application;
 use book::kinds::Call;
@@ -20,7 +21,38 @@ pub enum Line {
     NoForm,
 }
 
-fn file_of(n: [u64; MOST_PLACES]) -> Call
+// What stands from a place of a line on, for any bytes (without the line feed) and any place. The limit is the line's:
+// a longer one is no form, wherever it is read from.
+pub fn form_at(line: &[u8], at: usize) -> Line
+    ensures { λ r. ⌜ r ≡ lineAt (now (line .entry)) at ⌝ }
+{
+    if LONGEST_LINE < line.len() {
+        return Line::NoForm;
+    }
+    if line.len() < at {
+        return Line::NoForm;
+    }
+    form_of(&line[at..])
+}
+
+// The first of the forms that a text fits, however long it is. A function for each form tries its own, and hands what
+// does not fit to the next one's.
+fn form_of(line: &[u8]) -> Line
+    ensures { λ r. ⌜ r ≡ firstForm forms (now (line .entry)) ⌝ }
+{
+    let read = fitted(
+        b"(file (maker #) (set #) (year #) (use #) (family #) (fcl #) (cf #) (volume #) (life #))",
+        line,
+        MOST_DIGITS,
+    );
+    if read.fits {
+        let n = read.n;
+        return Line::Form(file_of(n));
+    }
+    from_close(line)
+}
+
+fn file_of(n: [u64; MOST_FIGURES]) -> Call
     ensures { λ r. ⌜ r ≡ file .call n ⌝ }
 {
     Call::File(Filing {
@@ -36,13 +68,39 @@ fn file_of(n: [u64; MOST_PLACES]) -> Call
     })
 }
 
-fn close_of(n: [u64; MOST_PLACES]) -> Call
+fn from_close(line: &[u8]) -> Line
+    ensures { λ r. ⌜ r ≡ firstForm fromClose (now (line .entry)) ⌝ }
+{
+    let read = fitted(b"(close (year #))", line, MOST_DIGITS);
+    if read.fits {
+        let n = read.n;
+        return Line::Form(close_of(n));
+    }
+    from_trade(line)
+}
+
+fn close_of(n: [u64; MOST_FIGURES]) -> Call
     ensures { λ r. ⌜ r ≡ close .call n ⌝ }
 {
     Call::Close(n[0])
 }
 
-fn trade_of(n: [u64; MOST_PLACES]) -> Call
+fn from_trade(line: &[u8]) -> Line
+    ensures { λ r. ⌜ r ≡ firstForm fromTrade (now (line .entry)) ⌝ }
+{
+    let read = fitted(
+        b"(trade (from #) (to #) (set #) (vintage #) (mg #))",
+        line,
+        MOST_DIGITS,
+    );
+    if read.fits {
+        let n = read.n;
+        return Line::Form(trade_of(n));
+    }
+    from_apply(line)
+}
+
+fn trade_of(n: [u64; MOST_FIGURES]) -> Call
     ensures { λ r. ⌜ r ≡ trade .call n ⌝ }
 {
     Call::Trade(Trade {
@@ -54,7 +112,22 @@ fn trade_of(n: [u64; MOST_PLACES]) -> Call
     })
 }
 
-fn apply_of(n: [u64; MOST_PLACES]) -> Call
+fn from_apply(line: &[u8]) -> Line
+    ensures { λ r. ⌜ r ≡ firstForm fromApply (now (line .entry)) ⌝ }
+{
+    let read = fitted(
+        b"(apply (maker #) (set #) (vintage #) (year #) (mg #))",
+        line,
+        MOST_DIGITS,
+    );
+    if read.fits {
+        let n = read.n;
+        return Line::Form(apply_of(n));
+    }
+    from_retire(line)
+}
+
+fn apply_of(n: [u64; MOST_FIGURES]) -> Call
     ensures { λ r. ⌜ r ≡ apply .call n ⌝ }
 {
     Call::Apply(Application {
@@ -66,7 +139,22 @@ fn apply_of(n: [u64; MOST_PLACES]) -> Call
     })
 }
 
-fn retire_of(n: [u64; MOST_PLACES]) -> Call
+fn from_retire(line: &[u8]) -> Line
+    ensures { λ r. ⌜ r ≡ firstForm fromRetire (now (line .entry)) ⌝ }
+{
+    let read = fitted(
+        b"(retire (maker #) (set #) (vintage #) (mg #))",
+        line,
+        MOST_DIGITS,
+    );
+    if read.fits {
+        let n = read.n;
+        return Line::Form(retire_of(n));
+    }
+    Line::NoForm
+}
+
+fn retire_of(n: [u64; MOST_FIGURES]) -> Call
     ensures { λ r. ⌜ r ≡ retire .call n ⌝ }
 {
     Call::Retire(Retirement {
@@ -75,66 +163,4 @@ fn retire_of(n: [u64; MOST_PLACES]) -> Call
         vintage: n[2],
         mg: n[3],
     })
-}
-
-// What stands from a place of a line on, for any bytes (without the line feed) and any place. The limit is the line's: a longer
-// one is no form, wherever it is read from.
-pub fn form_at(line: &[u8], at: usize) -> Line
-    ensures { λ r. ⌜ r ≡ lineAt (now (line .entry)) at ⌝ }
-{
-    if LONGEST_LINE < line.len() {
-        return Line::NoForm;
-    }
-    if line.len() < at {
-        return Line::NoForm;
-    }
-    form_of(&line[at..])
-}
-
-// The first of the forms that a text fits, however long it is.
-fn form_of(line: &[u8]) -> Line
-    ensures { λ r. ⌜ r ≡ firstForm forms (now (line .entry)) ⌝ }
-{
-    let file = fitted(
-        b"(file (maker #) (set #) (year #) (use #) (family #) (fcl #) (cf #) (volume #) (life #))",
-        line,
-        MOST_DIGITS,
-    );
-    if file.fits {
-        let n = file.n;
-        return Line::Form(file_of(n));
-    }
-    let close = fitted(b"(close (year #))", line, MOST_DIGITS);
-    if close.fits {
-        let n = close.n;
-        return Line::Form(close_of(n));
-    }
-    let trade = fitted(
-        b"(trade (from #) (to #) (set #) (vintage #) (mg #))",
-        line,
-        MOST_DIGITS,
-    );
-    if trade.fits {
-        let n = trade.n;
-        return Line::Form(trade_of(n));
-    }
-    let apply = fitted(
-        b"(apply (maker #) (set #) (vintage #) (year #) (mg #))",
-        line,
-        MOST_DIGITS,
-    );
-    if apply.fits {
-        let n = apply.n;
-        return Line::Form(apply_of(n));
-    }
-    let retire = fitted(
-        b"(retire (maker #) (set #) (vintage #) (mg #))",
-        line,
-        MOST_DIGITS,
-    );
-    if retire.fits {
-        let n = retire.n;
-        return Line::Form(retire_of(n));
-    }
-    Line::NoForm
 }

@@ -4,7 +4,8 @@ ghost use Prim.Native.Nat.{_+_, _*_, _<_, _≤_};
 ghost use lib.ListN.{length, take};
 ghost use Rattle.book.specs.Sizes.{makers, sets, years};
 ghost use Rattle.text.specs.Placing.{Puts, Stands, roomFor};
-ghost use Rattle.text.specs.Listing.{cellText, entryRoom, gather, listing, listingRoom, lotLine, lotText, makerText, shortageLine, shortageText};
+ghost use Rattle.text.specs.Listing.{cellText, gather, listing, lotLine, lotText, makerText};
+ghost use Rattle.text.specs.Listing.{entryRoom, listingRoom, shortageLine, shortageText};
 use crate::patterns::fill;
 use crate::placing::Placed;
 use book::ledger::Book;
@@ -17,12 +18,14 @@ use book::listing::lot_entry;
 use book::listing::shortage_entry;
 use figuring::years::FIRST_YEAR;
 
-// Room for any book's listing: for each of 32 cells and 24 years the line of a lot and that of a shortage, 64 bytes each.
+// Room for any book's listing: for each of 32 cells and 24 years a lot's line and a shortage's, of 64 bytes each.
 pub const LISTING_ROOM: usize = 98_304;
 
-// Puts the lines of all cells at out's start, and answers the place after them. Where out is shorter than LISTING_ROOM, it is as it was.
+// Puts the lines of all cells at out's start, and answers the place after them. Where out is shorter than
+// LISTING_ROOM, it is as it was.
 pub fn put_listing(out: &mut [u8], book: Book) -> Placed
-    ensures { λ r. ⌜ Puts (roomFor listingRoom 0 (now (out .entry))) (listing book) 0 (now (out .entry)) r (now (out .exit)) ⌝ }
+    ensures { λ r. ⌜ Puts (roomFor listingRoom 0 (now (out .entry))) (listing book) 0
+        (now (out .entry)) r (now (out .exit)) ⌝ }
     ensures { λ r. ⌜ (r .at ≤ length (now (out .exit))) × (r .at ≡ length (take (r .at) (now (out .exit)))) ⌝ }
 {
     if out.len() < LISTING_ROOM {
@@ -51,7 +54,8 @@ fn put_maker(out: &mut [u8], at: usize, book: Book, maker: u64) -> usize
 }
 
 fn put_cell(out: &mut [u8], at: usize, book: Book, maker: u64, set: u64) -> usize
-    requires { ⌜ (at + (years * entryRoom + years * entryRoom) ≤ length (now out)) × ((maker < makers) × (set < sets)) ⌝ }
+    requires { ⌜ (at + (years * entryRoom + years * entryRoom) ≤ length (now out))
+        × ((maker < makers) × (set < sets)) ⌝ }
     ensures { λ r. ⌜ Stands (cellText book maker set) at (now (out .entry)) r (now (out .exit)) ⌝ }
 {
     let w = put_lots(out, at, book.open_year, &book.lots, maker, set);
@@ -67,7 +71,8 @@ fn put_lots(
     set: u64,
 ) -> usize
     requires { ⌜ (at + years * entryRoom ≤ length (now out)) × ((maker < makers) × (set < sets)) ⌝ }
-    ensures { λ r. ⌜ Stands (gather years (lotLine «open_year» (now (lots .entry)) maker set)) at (now (out .entry)) r (now (out .exit)) ⌝ }
+    ensures { λ r. ⌜ Stands (gather years (lotLine «open_year» (now (lots .entry)) maker set)) at
+        (now (out .entry)) r (now (out .exit)) ⌝ }
 {
     let mut w = at;
     let mut i: u64 = 0;
@@ -88,7 +93,8 @@ fn put_shortages(
     set: u64,
 ) -> usize
     requires { ⌜ (at + years * entryRoom ≤ length (now out)) × ((maker < makers) × (set < sets)) ⌝ }
-    ensures { λ r. ⌜ Stands (gather years (shortageLine «open_year» (now (shortages .entry)) maker set)) at (now (out .entry)) r (now (out .exit)) ⌝ }
+    ensures { λ r. ⌜ Stands (gather years (shortageLine «open_year» (now (shortages .entry)) maker set)) at
+        (now (out .entry)) r (now (out .exit)) ⌝ }
 {
     let mut w = at;
     let mut i: u64 = 0;

@@ -3,26 +3,26 @@ ghost use mathlib.Core.Path.{_≡_};
 ghost use Prim.Native.Nat.{_+_, _≤_};
 ghost use lib.ListN.{length};
 ghost use Rattle.text.specs.Placing.{Stands};
-ghost use Rattle.text.specs.Pattern.{figures, places, filled, mostPlaces};
+ghost use Rattle.text.specs.Pattern.{figures, hashes, filled, mostFigures};
 use crate::numbers::Number;
 use crate::numbers::number_at;
 use crate::numbers::put_number;
 
 // How many figures a form can have.
-pub const MOST_PLACES: usize = 12;
+pub const MOST_FIGURES: usize = 12;
 
 // What stands in a text in the places of a pattern's #, 0 after the last; or that the text does not fit.
 pub struct Figures {
     pub fits: bool,
-    pub n: [u64; MOST_PLACES],
+    pub n: [u64; MOST_FIGURES],
 }
 
-// The text is read against a pattern, in which # stands for a number of at most `most` digits and every other byte for itself.
+// Reads a text against a pattern, in which # stands for a number of at most `most` digits, any other byte for itself.
 pub(crate) fn fitted(pattern: &[u8], text: &[u8], most: usize) -> Figures
-    requires { ⌜ (places (now pattern) ≤ mostPlaces) × (most ≤ 18) ⌝ }
+    requires { ⌜ (hashes (now pattern) ≤ mostFigures) × (most ≤ 18) ⌝ }
     ensures { λ r. ⌜ r ≡ figures most (now (pattern .entry)) (now (text .entry)) ⌝ }
 {
-    let mut n = [0u64; MOST_PLACES];
+    let mut n = [0u64; MOST_FIGURES];
     let mut k: usize = 0;
     let mut j: usize = 0;
     let mut i: usize = 0;
@@ -34,7 +34,7 @@ pub(crate) fn fitted(pattern: &[u8], text: &[u8], most: usize) -> Figures
                 Number::Nothing => {
                     return Figures {
                         fits: false,
-                        n: [0; MOST_PLACES],
+                        n: [0; MOST_FIGURES],
                     };
                 }
                 Number::Read(v, d) => {
@@ -47,13 +47,13 @@ pub(crate) fn fitted(pattern: &[u8], text: &[u8], most: usize) -> Figures
             if j == text.len() {
                 return Figures {
                     fits: false,
-                    n: [0; MOST_PLACES],
+                    n: [0; MOST_FIGURES],
                 };
             }
             if text[j] != p {
                 return Figures {
                     fits: false,
-                    n: [0; MOST_PLACES],
+                    n: [0; MOST_FIGURES],
                 };
             }
             j += 1;
@@ -62,15 +62,15 @@ pub(crate) fn fitted(pattern: &[u8], text: &[u8], most: usize) -> Figures
     if j < text.len() {
         return Figures {
             fits: false,
-            n: [0; MOST_PLACES],
+            n: [0; MOST_FIGURES],
         };
     }
     Figures { fits: true, n }
 }
 
 // Puts a pattern into out from at on, with the numbers of n in the places of its #, and answers the place after it.
-pub(crate) fn fill(out: &mut [u8], at: usize, pattern: &[u8], n: [u64; MOST_PLACES]) -> usize
-    requires { ⌜ places (now pattern) ≤ mostPlaces ⌝ }
+pub(crate) fn fill(out: &mut [u8], at: usize, pattern: &[u8], n: [u64; MOST_FIGURES]) -> usize
+    requires { ⌜ hashes (now pattern) ≤ mostFigures ⌝ }
     requires { ⌜ at + length (filled (now pattern) n) ≤ length (now out) ⌝ }
     ensures { λ r. ⌜ Stands (filled (now (pattern .entry)) n) at (now (out .entry)) r (now (out .exit)) ⌝ }
 {

@@ -1,6 +1,6 @@
-// "A reader carries the lent line along with its place": the line's slice and a position. Few thin functions: they take it
-// apart and call the covered reader of a slice and a number. `read_line` has a plain parameter,
-// so that its callers need no proof by hand.
+// "A reader carries the lent line along with its place": the line's slice and a position. Few thin functions: they take
+// it apart and call the covered reader of a slice and a number. `read_line` has a plain parameter, so that its callers
+// need no proof by hand.
 ghost use mathlib.Core.Path.{_≡_};
 ghost use Rattle.text.specs.Line.{lineAt, lineOf};
 use crate::lines::Line;

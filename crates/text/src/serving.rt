@@ -51,7 +51,8 @@ pub(crate) fn serve(book: Book, first: Turn, chunk: &[u8], out: &mut [u8]) -> Se
 
 // Puts the answer to the line that has ended, and takes the bytes to the end of the next.
 fn after(turn: Turn, answer: Answer, chunk: &[u8], out: &mut [u8]) -> Turn
-    requires { ⌜ (turn .len ≤ length (turn .held)) × ((turn .taken ≤ length (now chunk)) × (turn .put + answerRoom ≤ length (now out))) ⌝ }
+    requires { ⌜ (turn .len ≤ length (turn .held))
+        × ((turn .taken ≤ length (now chunk)) × (turn .put + answerRoom ≤ length (now out))) ⌝ }
     ensures { λ r. ⌜ After turn answer (now (chunk .entry)) (now (out .entry)) r (now (out .exit)) ⌝ }
 {
     let put = write_answer(out, turn.put, answer);

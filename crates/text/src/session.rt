@@ -10,9 +10,9 @@ ghost use Rattle.text.specs.Program.{sessionRoom, terminal};
 use crate::answering::ANSWER_ROOM;
 use crate::answering::Step;
 use crate::desk::Desk;
-use crate::desk::feed;
 use crate::desk::last;
 use crate::desk::open_desk;
+use crate::desk::take_in;
 use crate::listing::LISTING_ROOM;
 use crate::listing::put_listing;
 use crate::placing::Placed;
@@ -21,7 +21,8 @@ use book::ledger::Book;
 // Begun on a fresh book: the answers to the input's lines, then the listing, at out's start. out has room if it has
 // ANSWER_ROOM bytes for each byte of the input and for one line more, and LISTING_ROOM; if not, it is as it was.
 pub fn session(input: &[u8], out: &mut [u8]) -> Placed
-    ensures { λ r. ⌜ Puts (roomFor (sessionRoom (length (now (input .entry)))) 0 (now (out .entry))) (terminal (now (input .entry))) 0 (now (out .entry)) r (now (out .exit)) ⌝ }
+    ensures { λ r. ⌜ Puts (roomFor (sessionRoom (length (now (input .entry)))) 0 (now (out .entry)))
+        (terminal (now (input .entry))) 0 (now (out .entry)) r (now (out .exit)) ⌝ }
     ensures { λ r. ⌜ (r .at ≤ length (now (out .exit))) × (r .at ≡ length (take (r .at) (now (out .exit)))) ⌝ }
 {
     if out.len() < LISTING_ROOM + ANSWER_ROOM {
@@ -40,9 +41,9 @@ fn put_session(input: &[u8], out: &mut [u8]) -> usize
     ensures { λ r. ⌜ Stands (terminal (now (input .entry))) 0 (now (out .entry)) r (now (out .exit)) ⌝ }
     ensures { λ r. ⌜ r ≤ length (now (out .exit)) ⌝ }
 {
-    let fed = feed(open_desk(), input, out);
-    let desk = fed.desk;
-    let ended = last_at(out, fed.at, desk);
+    let reply = take_in(open_desk(), input, out);
+    let desk = reply.desk;
+    let ended = last_at(out, reply.at, desk);
     let book = ended.book;
     listing_at(out, ended.at, book)
 }
@@ -50,7 +51,8 @@ fn put_session(input: &[u8], out: &mut [u8]) -> usize
 // The end of the input, answered from at on.
 fn last_at(out: &mut [u8], at: usize, desk: Desk) -> Step
     requires { ⌜ at + answerRoom ≤ length (now out) ⌝ }
-    ensures { λ r. ⌜ (r .book ≡ ends (atDesk desk) .book) × Stands (ends (atDesk desk) .said) at (now (out .entry)) (r .at) (now (out .exit)) ⌝ }
+    ensures { λ r. ⌜ (r .book ≡ ends (atDesk desk) .book)
+        × Stands (ends (atDesk desk) .said) at (now (out .entry)) (r .at) (now (out .exit)) ⌝ }
 {
     let f = last(desk, &mut out[at..]);
     let d = f.desk;

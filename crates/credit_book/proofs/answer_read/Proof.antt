@@ -24,7 +24,8 @@ returns : tie.Need-returns
 returns c =
     let start = c .before .before .before .before .before .before .before .before in
     let count = c .before .before .before .before .before .count in
-    let n : count .result ≡ clamped (start .args .got) chunkRoom = count .ensures .1 ∙ ap₂ clamped (toZ-ofZ (start .fits .got)) (start .pre .0) in
+    let n : count .result ≡ clamped (start .args .got) chunkRoom =
+    count .ensures .1 ∙ ap₂ clamped (toZ-ofZ (start .fits .got)) (start .pre .0) in
     rw (← n) (c .before .before .answer-chunk .ensures)
 
 pub answer-read-spec : {M : Type 1} → statement M

@@ -13,7 +13,10 @@ same-length : tie.Need-same-length
 same-length c = search needs
 
 returns : tie.Need-returns
-returns c = lists {said = c .before .before .before .before .before .before .before .before .answer-last .result} (c .before .before .before .before .before .before .before .before .answer-last .ensures) (c .before .before .before .before .if1 .taken) (c .before .before .list-cells .ensures)
+returns c =
+    lists {said = c .before .before .before .before .before .before .before .before .answer-last .result}
+    (c .before .before .before .before .before .before .before .before .answer-last .ensures)
+    (c .before .before .before .before .if1 .taken) (c .before .before .list-cells .ensures)
 
 unwritten-requires : tie.Need-unwritten-requires
 unwritten-requires c κs = search needs
@@ -22,7 +25,9 @@ same-length-2 : tie.Need-same-length-2
 same-length-2 c = search needs
 
 returns-2 : tie.Need-returns-2
-returns-2 c = lists-nothing {said = c .before .before .before .before .before .answer-last .result} (c .before .before .before .before .before .answer-last .ensures) (c .before .if1 .left) (c .unwritten .ensures)
+returns-2 c =
+    lists-nothing {said = c .before .before .before .before .before .answer-last .result}
+    (c .before .before .before .before .before .answer-last .ensures) (c .before .if1 .left) (c .unwritten .ensures)
 
 pub close-spec : {M : Type 1} → statement M
 close-spec =

@@ -33,8 +33,14 @@ turn-fine-requires c κs = search needs
 reads-on-requires : tie.Need-reads-on-requires Inv-loop μ-loop
 reads-on-requires c κs = search needs
 
-turns-left : (c : tie.After-reads-on Inv-loop μ-loop) → c .before .before .before .before .before .before .before .before .before .before .before .before .loop .turns < mostTurns
-turns-left c = lt-of-lt-of-le (ltb-true _ _ (c .before .before .before .before .before .before .before .before .before .before .if1 .taken)) (lit≤ tt)
+turns-left :
+    (c : tie.After-reads-on Inv-loop μ-loop)
+    → c .before .before .before .before .before .before .before .before .before .before .before .before .loop .turns <
+    mostTurns
+turns-left c =
+    lt-of-lt-of-le
+    (ltb-true _ _ (c .before .before .before .before .before .before .before .before .before .before .if1 .taken))
+    (lit≤ tt)
 
 add-turns : tie.Need-add-turns Inv-loop μ-loop
 add-turns c = omega (arith, turns-left c)
@@ -45,7 +51,11 @@ loop-less c = omega (arith, turns-left c)
 loop-again : tie.Need-loop-again Inv-loop μ-loop
 loop-again c =
     let read = c .before .before .before .before .before .before .before .before .read-some in
-    next (c .before .before .before .before .before .before .before .before .before .before .before .loop-test .taken) (turns-left c) (c .before .before .before .before .before .before .before .before .before .before .before .before .loop .inv) (read .ensures) (record { sfits = c .before .before .before .struct-told .given .1 .0 .1 }) (c .before .before .turn-fine .ensures) (c .reads-on .ensures)
+    next (c .before .before .before .before .before .before .before .before .before .before .before .loop-test .taken)
+    (turns-left c)
+    (c .before .before .before .before .before .before .before .before .before .before .before .before .loop .inv)
+    (read .ensures) (record { sfits = c .before .before .before .struct-told .given .1 .0 .1 })
+    (c .before .before .turn-fine .ensures) (c .reads-on .ensures)
 
 same-length : tie.Need-same-length Inv-loop μ-loop
 same-length c = c .before .before .loop .inv .long
@@ -53,7 +63,12 @@ same-length c = c .before .before .loop .inv .long
 returns : tie.Need-returns Inv-loop μ-loop
 returns c =
     let g = c .before .before .loop .inv in
-    record { chunks = g .chunks; reading = g .reading; counts = g .counts; used-up = λ _. omega (arith, g .within, ltb-false) }
+    record {
+      chunks = g .chunks;
+      reading = g .reading;
+      counts = g .counts;
+      used-up = λ _. omega (arith, g .within, ltb-false);
+    }
 
 same-length-2 : tie.Need-same-length-2 Inv-loop μ-loop
 same-length-2 c = c .before .loop .inv .long
@@ -61,7 +76,12 @@ same-length-2 c = c .before .loop .inv .long
 returns-2 : tie.Need-returns-2 Inv-loop μ-loop
 returns-2 c =
     let g = c .before .loop .inv in
-    record { chunks = g .chunks; reading = g .reading; counts = g .counts; used-up = λ e. absurd (true≢false (sym e ∙ c .loop-test .left)) }
+    record {
+      chunks = g .chunks;
+      reading = g .reading;
+      counts = g .counts;
+      used-up = λ e. absurd (true≢false (sym e ∙ c .loop-test .left));
+    }
 
 pub read-all-spec : {M : Type 1} → statement M
 read-all-spec =

@@ -19,7 +19,9 @@ same-length c = search needs
 
 returns : tie.Need-returns
 returns c =
-    let e = sym (c .before .before .before .before .before .at-end .ensures) ∙ c .before .before .before .before .if1 .taken in
+    let e =
+    sym (c .before .before .before .before .before .at-end .ensures)
+    ∙ c .before .before .before .before .if1 .taken in
     let read = c .before .before .before .before .before .before .before .before .read-all .ensures in
     record {
       read = read;

@@ -5,7 +5,8 @@ use Rattle.credit_book.proofs.say.Statement.{statement}
 use Rattle.credit_book.proofs.say.Tie as tie
 
 slice-aggregate-written : tie.Need-slice-aggregate-written
-slice-aggregate-written c = sym (length-take-le (c .before .before .args .at) (c .before .before .args .out .now) (c .before .before .pre))
+slice-aggregate-written c =
+    sym (length-take-le (c .before .before .args .at) (c .before .before .args .out .now) (c .before .before .pre))
 
 written-requires : tie.Need-written-requires
 written-requires c κs = search needs

@@ -17,7 +17,9 @@ returns : tie.Need-returns
 returns c =
     record {
       book-is = ap (λ (p : Posted). p .book) (c .before .before .before .before .before .answer-line .ensures);
-      stands = rw (← c .before .before .before .before .before .answer-line .ensures) (c .before .before .write-answer .ensures);
+      stands =
+          rw (← c .before .before .before .before .before .answer-line .ensures)
+          (c .before .before .write-answer .ensures);
     }
 
 pub answer-into-spec : {M : Type 1} → statement M

@@ -16,7 +16,14 @@ write-answer-requires : tie.Need-write-answer-requires
 write-answer-requires c κs = search needs
 
 array-share-prefix-text : tie.Need-array-share-prefix-text
-array-share-prefix-text c = omega (arith, same-long (c .before .before .write-answer .ensures), c .before .before .write-answer .ensures .end-is, text-length (c .before .before .before .before .before .args .answer))
+array-share-prefix-text c =
+    omega (
+      arith,
+      same-long (c .before .before .write-answer .ensures),
+      c .before .before .write-answer .ensures .end-is,
+      text-length
+          (c .before .before .before .before .before .args .answer),
+    )
 
 slice-aggregate-put-bytes : tie.Need-slice-aggregate-put-bytes
 slice-aggregate-put-bytes c = sym (length-take-le _ _ (array-share-prefix-text (c .before)))
@@ -29,7 +36,10 @@ same-length c = search needs
 
 returns : tie.Need-returns
 returns c =
-    let q : take (c .before .before .before .before .before .before .write-answer .result) (c .before .before .before .before .before .before .write-answer .last .0) ≡ textOf (c .before .before .before .before .before .before .before .before .before .args .answer) = at-front (c .before .before .before .before .before .before .write-answer .ensures) (text-length _) in
+    let q : take (c .before .before .before .before .before .before .write-answer .result)
+    (c .before .before .before .before .before .before .write-answer .last .0)
+    ≡ textOf (c .before .before .before .before .before .before .before .before .before .args .answer) =
+    at-front (c .before .before .before .before .before .before .write-answer .ensures) (text-length _) in
     rw (← q) (c .before .before .put-bytes .ensures)
 
 pub put-answer-spec : {M : Type 1} → statement M

@@ -1,6 +1,6 @@
 -- The theorem, cited.
 use mathlib.Core.Path.{refl}
-use Rattle.text.proofs.FeedLaws as laws
+use Rattle.text.proofs.DeskLaws as laws
 use Rattle.text.proofs.claims.desks_by_what_they_hold.Statement.{statement}
 use Rattle.text.proofs.claims.desks_by_what_they_hold.Tie as tie
 

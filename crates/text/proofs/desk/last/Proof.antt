@@ -1,11 +1,11 @@
 use borrow.Author.Tests.{le-leb, lt-leb}
-use Rattle.text.proofs.FeedLaws.{unfed, with-room}
+use Rattle.text.proofs.DeskLaws.{without-room, with-room}
 use borrow.Author.Needs.{needs}
 use Rattle.text.proofs.desk.last.Statement.{statement}
 use Rattle.text.proofs.desk.last.Tie as tie
 
 returns : tie.Need-returns
-returns c = unfed (lt-leb _ _ (c .if1 .taken))
+returns c = without-room (lt-leb _ _ (c .if1 .taken))
 
 take-last-requires : tie.Need-take-last-requires
 take-last-requires c κs = search needs
@@ -14,7 +14,8 @@ same-length : tie.Need-same-length
 same-length c = search needs
 
 returns-2 : tie.Need-returns-2
-returns-2 c = with-room (le-leb _ _ (c .before .before .before .before .if1 .left)) (c .before .before .take-last .ensures)
+returns-2 c =
+    with-room (le-leb _ _ (c .before .before .before .before .if1 .left)) (c .before .before .take-last .ensures)
 
 pub last-spec : {M : Type 1} → statement M
 last-spec = tie.close (tie.spec returns take-last-requires same-length returns-2)

@@ -3,7 +3,7 @@ use native.Mathlib.Omega.{arith}
 use borrow.Author.Needs.{needs}
 use lib.ListN.{length}
 use Rattle.text.specs.Desk.{mostHeld}
-use Rattle.text.proofs.FeedLaws.{took}
+use Rattle.text.proofs.DeskLaws.{took}
 use Rattle.text.proofs.desk.take_chunk.Statement.{statement}
 use Rattle.text.proofs.desk.take_chunk.Tie as tie
 
@@ -14,7 +14,8 @@ held-count-requires : tie.Need-held-count-requires
 held-count-requires c κs = search needs
 
 next-line-requires : tie.Need-next-line-requires
-next-line-requires c κs = (omega (arith, c .held-count .ensures, held-long (c .before .before .before .before)), omega arith)
+next-line-requires c κs =
+    (omega (arith, c .held-count .ensures, held-long (c .before .before .before .before)), omega arith)
 
 serve-requires : tie.Need-serve-requires
 serve-requires c κs = search needs
@@ -24,7 +25,12 @@ same-length c = search needs
 
 returns : tie.Need-returns
 returns c =
-    took _ _ _ _ _ _ _ (held-long (c .before .before .before .before .before .before .before .before .before .before .before .before .before)) (c .before .before .before .before .before .before .before .before .before .held-count .ensures) (c .before .before .before .before .before .before .before .before .next-line .ensures) (c .before .before .before .before .before .serve .ensures)
+    took _ _ _ _ _ _ _
+    (held-long
+    (c .before .before .before .before .before .before .before .before .before .before .before .before .before))
+    (c .before .before .before .before .before .before .before .before .before .held-count .ensures)
+    (c .before .before .before .before .before .before .before .before .next-line .ensures)
+    (c .before .before .before .before .before .serve .ensures)
 
 pub take-chunk-spec : {M : Type 1} → statement M
 take-chunk-spec =

@@ -3,7 +3,7 @@ use native.Mathlib.Omega.{arith}
 use lib.ListN.{length}
 use lib.Seq.{length-take-le}
 use Rattle.text.specs.Desk.{mostHeld}
-use Rattle.text.proofs.FeedLaws.{no-last, a-last}
+use Rattle.text.proofs.DeskLaws.{no-last, a-last}
 use borrow.Author.Needs.{needs}
 use Rattle.text.proofs.desk.take_last.Statement.{statement}
 use Rattle.text.proofs.desk.take_last.Tie as tie
@@ -32,8 +32,13 @@ same-length c = search needs
 
 returns-2 : tie.Need-returns-2
 returns-2 c =
-    let h : length (c .before .before .before .before .before .before .before .before .before .before .before .args .desk .held) ≡ mostHeld = search needs in
-    a-last _ _ h (c .before .before .before .before .before .before .before .held-count .ensures) _ _ _ (c .before .before .before .before .before .before .if1 .left) (c .before .before .before .before .before .before .before .before .before .before .before .pre) (c .before .before .before .answer-into .ensures)
+    let h : length
+    (c .before .before .before .before .before .before .before .before .before .before .before .args .desk .held)
+    ≡ mostHeld = search needs in
+    a-last _ _ h (c .before .before .before .before .before .before .before .held-count .ensures) _ _ _
+    (c .before .before .before .before .before .before .if1 .left)
+    (c .before .before .before .before .before .before .before .before .before .before .before .pre)
+    (c .before .before .before .answer-into .ensures)
 
 pub take-last-spec : {M : Type 1} → statement M
 take-last-spec =

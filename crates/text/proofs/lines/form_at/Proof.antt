@@ -1,5 +1,5 @@
--- A longer line is no form; of any other, a part that starts past its end is empty, which no form is, and any other part is
--- lent to `form_of`.
+-- A longer line is no form; of any other, a part that starts past its end is empty, which no form is, and any other
+-- part is lent to `form_of`.
 use mathlib.Core.Path.{_≡_, refl, _∙_, ap}
 use mathlib.Core.List.{[]}
 use Prim.Native.Nat.{_-_}
@@ -26,7 +26,11 @@ returns-2 : tie.Need-returns-2
 unfolding lineAt
 returns-2 c =
     let s = c .before .before .before .args .line .now in
-    rw (le-ltb _ _ (c .before .if1 .left), drop-of-length-le s {i = c .before .before .before .args .at} (omega arith), empty-rest)
+    rw (
+      le-ltb _ _ (c .before .if1 .left),
+      drop-of-length-le s {i = c .before .before .before .args .at} (omega arith),
+      empty-rest,
+    )
 
 sub-form-of : tie.Need-sub-form-of
 sub-form-of c = search needs
@@ -45,7 +49,8 @@ unfolding lineAt
 returns-3 c =
     let s = c .before .before .before .before .before .args .line .now in
     let at = c .before .before .before .before .before .args .at in
-    c .form-of .ensures ∙ rw (le-ltb _ _ (c .before .before .before .if1 .left)) (ap (firstForm forms) (take-all (length s - at) (drop at s) (omega (arith, length-drop at s))))
+    c .form-of .ensures ∙ rw (le-ltb _ _ (c .before .before .before .if1 .left))
+    (ap (firstForm forms) (take-all (length s - at) (drop at s) (omega (arith, length-drop at s))))
 
 pub form-at-spec : {M : Type 1} → statement M
 form-at-spec =

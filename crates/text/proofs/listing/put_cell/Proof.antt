@@ -10,14 +10,26 @@ put-lots-requires : tie.Need-put-lots-requires
 put-lots-requires c κs = search needs
 
 put-shortages-requires : tie.Need-put-shortages-requires
-put-shortages-requires c κs = omega (arith, same-long (c .before .before .before .before .before .put-lots .ensures), c .before .before .before .before .before .put-lots .ensures .end-is, lots-length (c .before .before .before .before .before .before .before .before .before .before .args .t3) _ (c .before .before .before .before .before .before .before .before .before .before .pre .1 .0) _ (c .before .before .before .before .before .before .before .before .before .before .pre .1 .1), c .before .before .before .before .before .before .before .before .before .before .pre)
+put-shortages-requires c κs =
+    omega (
+      arith,
+      same-long (c .before .before .before .before .before .put-lots .ensures),
+      c .before .before .before .before .before .put-lots .ensures .end-is,
+      lots-length
+          (c .before .before .before .before .before .before .before .before .before .before .args .t3) _
+          (c .before .before .before .before .before .before .before .before .before .before .pre .1 .0) _
+          (c .before .before .before .before .before .before .before .before .before .before .pre .1 .1),
+      c .before .before .before .before .before .before .before .before .before .before .pre,
+    )
 
 same-length : tie.Need-same-length
 same-length c = search needs
 
 returns : tie.Need-returns
 unfolding cellText
-returns c = after-text (c .before .before .before .before .before .before .before .before .put-lots .ensures) (c .before .before .put-shortages .ensures)
+returns c =
+    after-text (c .before .before .before .before .before .before .before .before .put-lots .ensures)
+    (c .before .before .put-shortages .ensures)
 
 pub put-cell-spec : {M : Type 1} → statement M
 put-cell-spec = tie.close (tie.spec put-lots-requires put-shortages-requires same-length returns)

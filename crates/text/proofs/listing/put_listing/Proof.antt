@@ -12,7 +12,8 @@ use Rattle.text.proofs.listing.put_listing.Statement.{statement}
 use Rattle.text.proofs.listing.put_listing.Tie as tie
 
 abbrev Inv-loop : tie.InvT-loop
-Inv-loop out₀ book w₀ maker₀ out w maker = (maker ≤ makers) × Gathered (makerText book) (sets * (years * entryRoom + years * entryRoom)) out₀ out 0 w maker
+Inv-loop out₀ book w₀ maker₀ out w maker =
+    (maker ≤ makers) × Gathered (makerText book) (sets * (years * entryRoom + years * entryRoom)) out₀ out 0 w maker
 
 abbrev μ-loop : tie.MeasureT-loop
 μ-loop out₀ book w₀ maker₀ out w maker = makers - maker
@@ -24,7 +25,13 @@ loop-holds : tie.Need-loop-holds Inv-loop μ-loop
 loop-holds c = (omega arith, none-yet)
 
 put-maker-requires : tie.Need-put-maker-requires Inv-loop μ-loop
-put-maker-requires c κs = omega (arith, c .before .before .loop .inv .1 .w-fits, out-long (c .before .before .loop .inv .1), c .before .before .before .if1 .left)
+put-maker-requires c κs =
+    omega (
+      arith,
+      c .before .before .loop .inv .1 .w-fits,
+      out-long (c .before .before .loop .inv .1),
+      c .before .before .before .if1 .left,
+    )
 
 add-maker : tie.Need-add-maker Inv-loop μ-loop
 add-maker c = omega arith
@@ -33,7 +40,11 @@ loop-less : tie.Need-loop-less Inv-loop μ-loop
 loop-less c = omega arith
 
 loop-again : tie.Need-loop-again Inv-loop μ-loop
-loop-again c = (omega arith, one-more (c .before .before .before .before .before .loop .inv .1) (maker-length _ _ (c .before .before .before .before .loop-test .taken)) (c .before .before .put-maker .ensures))
+loop-again c = (
+  omega arith,
+  one-more (c .before .before .before .before .before .loop .inv .1)
+      (maker-length _ _ (c .before .before .before .before .loop-test .taken)) (c .before .before .put-maker .ensures),
+)
 
 same-length : tie.Need-same-length Inv-loop μ-loop
 same-length c = out-long (c .before .loop .inv .1)
@@ -41,8 +52,17 @@ same-length c = out-long (c .before .loop .inv .1)
 returns-2 : tie.Need-returns-2 Inv-loop μ-loop
 unfolding listing
 returns-2 c =
-    let o : c .before .loop .w ≤ length (c .before .loop .out) = omega (arith, c .before .loop .inv .1 .w-fits, out-long (c .before .loop .inv .1), c .before .before .if1 .left) in
-    (put-whole (le-leb listingRoom _ (c .before .before .if1 .left)) (all-gathered (c .before .loop .inv .1) makers (c .before .loop .inv .0) (c .loop-test .left)), (o, sym (length-take-le (c .before .loop .w) (c .before .loop .out) o)))
+    let o : c .before .loop .w ≤ length (c .before .loop .out) =
+    omega (
+      arith,
+      c .before .loop .inv .1 .w-fits,
+      out-long (c .before .loop .inv .1),
+      c .before .before .if1 .left,
+    ) in (
+      put-whole (le-leb listingRoom _ (c .before .before .if1 .left)) (all-gathered (c .before .loop .inv .1) makers
+          (c .before .loop .inv .0) (c .loop-test .left)),
+      (o, sym (length-take-le (c .before .loop .w) (c .before .loop .out) o)),
+    )
 
 pub put-listing-spec : {M : Type 1} → statement M
 put-listing-spec =

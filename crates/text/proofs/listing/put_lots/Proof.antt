@@ -7,7 +7,8 @@ use Rattle.text.proofs.listing.put_lots.Statement.{statement}
 use Rattle.text.proofs.listing.put_lots.Tie as tie
 
 abbrev Inv-loop : tie.InvT-loop
-Inv-loop out₀ at open-year lots maker set w₀ i₀ out w i = (i ≤ years) × Gathered (lotLine open-year lots maker set) entryRoom out₀ out at w i
+Inv-loop out₀ at open-year lots maker set w₀ i₀ out w i =
+    (i ≤ years) × Gathered (lotLine open-year lots maker set) entryRoom out₀ out at w i
 
 abbrev μ-loop : tie.MeasureT-loop
 μ-loop out₀ at open-year lots maker set w₀ i₀ out w i = years - i
@@ -25,7 +26,13 @@ add-put-lot : tie.Need-add-put-lot Inv-loop μ-loop
 add-put-lot c = omega arith
 
 put-lot-requires : tie.Need-put-lot-requires Inv-loop μ-loop
-put-lot-requires c κs = omega (arith, c .before .before .before .loop .inv .1 .w-fits, out-long (c .before .before .before .loop .inv .1), c .before .before .before .before .before .pre)
+put-lot-requires c κs =
+    omega (
+      arith,
+      c .before .before .before .loop .inv .1 .w-fits,
+      out-long (c .before .before .before .loop .inv .1),
+      c .before .before .before .before .before .pre,
+    )
 
 add-i : tie.Need-add-i Inv-loop μ-loop
 add-i c = omega arith
@@ -34,7 +41,15 @@ loop-less : tie.Need-loop-less Inv-loop μ-loop
 loop-less c = omega arith
 
 loop-again : tie.Need-loop-again Inv-loop μ-loop
-loop-again c = (omega arith, one-more (c .before .before .before .before .before .before .loop .inv .1) (lot-length _ _ _ _ _ (c .before .before .before .before .before .before .before .before .pre .1 .0) (c .before .before .before .before .before .before .before .before .pre .1 .1) (c .before .before .before .before .before .loop-test .taken)) (lot-stands _ _ _ _ _ (c .before .before .before .before .lot-entry .ensures) (c .before .before .put-lot .ensures)))
+loop-again c = (
+  omega arith,
+  one-more (c .before .before .before .before .before .before .loop .inv .1)
+      (lot-length _ _ _ _ _ (c .before .before .before .before .before .before .before .before .pre .1 .0)
+      (c .before .before .before .before .before .before .before .before .pre .1 .1)
+      (c .before .before .before .before .before .loop-test .taken))
+      (lot-stands _ _ _ _ _ (c .before .before .before .before .lot-entry .ensures)
+      (c .before .before .put-lot .ensures)),
+)
 
 same-length : tie.Need-same-length Inv-loop μ-loop
 same-length c = out-long (c .before .loop .inv .1)

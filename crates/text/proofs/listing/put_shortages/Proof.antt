@@ -2,12 +2,14 @@ use Prim.Native.Nat.{_≤_, _-_}
 use native.Mathlib.Omega.{arith}
 use Rattle.book.specs.Sizes.{years}
 use Rattle.text.specs.Listing.{shortageLine, entryRoom}
-use Rattle.text.proofs.ListingLaws.{Gathered, none-yet, out-long, one-more, all-gathered, shortage-stands, shortage-length}
+use Rattle.text.proofs.ListingLaws.{Gathered, none-yet, out-long, one-more, all-gathered, shortage-stands}
+use Rattle.text.proofs.ListingLaws.{shortage-length}
 use Rattle.text.proofs.listing.put_shortages.Statement.{statement}
 use Rattle.text.proofs.listing.put_shortages.Tie as tie
 
 abbrev Inv-loop : tie.InvT-loop
-Inv-loop out₀ at open-year shortages maker set w₀ i₀ out w i = (i ≤ years) × Gathered (shortageLine open-year shortages maker set) entryRoom out₀ out at w i
+Inv-loop out₀ at open-year shortages maker set w₀ i₀ out w i =
+    (i ≤ years) × Gathered (shortageLine open-year shortages maker set) entryRoom out₀ out at w i
 
 abbrev μ-loop : tie.MeasureT-loop
 μ-loop out₀ at open-year shortages maker set w₀ i₀ out w i = years - i
@@ -25,7 +27,13 @@ add-put-shortage : tie.Need-add-put-shortage Inv-loop μ-loop
 add-put-shortage c = omega arith
 
 put-shortage-requires : tie.Need-put-shortage-requires Inv-loop μ-loop
-put-shortage-requires c κs = omega (arith, c .before .before .before .loop .inv .1 .w-fits, out-long (c .before .before .before .loop .inv .1), c .before .before .before .before .before .pre)
+put-shortage-requires c κs =
+    omega (
+      arith,
+      c .before .before .before .loop .inv .1 .w-fits,
+      out-long (c .before .before .before .loop .inv .1),
+      c .before .before .before .before .before .pre,
+    )
 
 add-i : tie.Need-add-i Inv-loop μ-loop
 add-i c = omega arith
@@ -34,7 +42,15 @@ loop-less : tie.Need-loop-less Inv-loop μ-loop
 loop-less c = omega arith
 
 loop-again : tie.Need-loop-again Inv-loop μ-loop
-loop-again c = (omega arith, one-more (c .before .before .before .before .before .before .loop .inv .1) (shortage-length _ _ _ _ _ (c .before .before .before .before .before .before .before .before .pre .1 .0) (c .before .before .before .before .before .before .before .before .pre .1 .1) (c .before .before .before .before .before .loop-test .taken)) (shortage-stands _ _ _ _ _ (c .before .before .before .before .shortage-entry .ensures) (c .before .before .put-shortage .ensures)))
+loop-again c = (
+  omega arith,
+  one-more (c .before .before .before .before .before .before .loop .inv .1)
+      (shortage-length _ _ _ _ _ (c .before .before .before .before .before .before .before .before .pre .1 .0)
+      (c .before .before .before .before .before .before .before .before .pre .1 .1)
+      (c .before .before .before .before .before .loop-test .taken))
+      (shortage-stands _ _ _ _ _ (c .before .before .before .before .shortage-entry .ensures)
+      (c .before .before .put-shortage .ensures)),
+)
 
 same-length : tie.Need-same-length Inv-loop μ-loop
 same-length c = out-long (c .before .loop .inv .1)

@@ -5,7 +5,7 @@ use mathlib.Core.Path.{refl, ap}
 use lib.ListN.{length, length-set}
 use lib.Seq.{length-sets}
 use Rattle.text.proofs.NumeralLaws.{numeral-small, numeral-more, more-length}
-use Rattle.text.proofs.StoreLaws.{sets-one}
+use Rattle.text.proofs.StoreLaws.{overwritten-one}
 use borrow.Fn.Kinds.{In}
 use borrow.Fn.PlainCycle.{Measures, is, falls, and}
 use Rattle.text.proofs.numbers.put_number.Reads as put-number
@@ -65,13 +65,19 @@ put-number-returns :
     (put-number-below t, put-number.Post)
     (put-number-at t)
     put-number.Post
-put-number-returns t c = rw (numeral-small (c .before .before .args .n) (c .if1 .taken)) (record { end-is = refl; out-is = refl })
+put-number-returns t c =
+    rw (numeral-small (c .before .before .args .n) (c .if1 .taken)) (record { end-is = refl; out-is = refl })
 
 put-number-put-number-requires : (t : ℕ) → put-number-lts.Need-put-number-requires (
   put-number-below t,
   put-number.Post,
 ) (put-number-at t) put-number.Post
-put-number-put-number-requires t c κs = omega (arith, more-length (c .before .before .before .args .n) (c .before .if1 .left) (c .before .before .before .fits .n .fits))
+put-number-put-number-requires t c κs =
+    omega (
+      arith,
+      more-length (c .before .before .before .args .n) (c .before .if1 .left)
+          (c .before .before .before .fits .n .fits),
+    )
 
 put-number-cast-out-2 : (t : ℕ) → put-number-lts.Need-cast-out-2 (
   put-number-below t,
@@ -89,13 +95,27 @@ put-number-slice-write-out-2 : (t : ℕ) → put-number-lts.Need-slice-write-out
   put-number-below t,
   put-number.Post,
 ) (put-number-at t) put-number.Post
-put-number-slice-write-out-2 t c = rw (c .before .before .put-number .ensures .out-is) (simp length-sets (omega (arith, more-length (c .before .before .before .before .before .before .args .n) (c .before .before .before .before .if1 .left) (c .before .before .before .before .before .before .fits .n .fits))))
+put-number-slice-write-out-2 t c =
+    rw (c .before .before .put-number .ensures .out-is)
+    (simp length-sets
+    (omega (
+      arith,
+      more-length (c .before .before .before .before .before .before .args .n)
+          (c .before .before .before .before .if1 .left)
+          (c .before .before .before .before .before .before .fits .n .fits),
+    )))
 
 put-number-add-result-2 : (t : ℕ) → put-number-lts.Need-add-result-2 (
   put-number-below t,
   put-number.Post,
 ) (put-number-at t) put-number.Post
-put-number-add-result-2 t c = omega (arith, more-length (c .before .before .before .before .before .before .args .n) (c .before .before .before .before .if1 .left) (c .before .before .before .before .before .before .fits .n .fits))
+put-number-add-result-2 t c =
+    omega (
+      arith,
+      more-length (c .before .before .before .before .before .before .args .n)
+          (c .before .before .before .before .if1 .left)
+          (c .before .before .before .before .before .before .fits .n .fits),
+    )
 
 put-number-same-length-2 : (t : ℕ) → put-number-lts.Need-same-length-2 (
   put-number-below t,
@@ -108,10 +128,24 @@ put-number-returns-2 : (t : ℕ) → put-number-lts.Need-returns-2 (
   put-number.Post,
 ) (put-number-at t) put-number.Post
 put-number-returns-2 t c =
-    let q = numeral-more (c .before .before .before .before .before .before .args .n) (c .before .before .before .before .if1 .left) (c .before .before .before .before .before .before .fits .n .fits) in
+    let q =
+    numeral-more (c .before .before .before .before .before .before .args .n)
+    (c .before .before .before .before .if1 .left)
+    (c .before .before .before .before .before .before .fits .n .fits) in
     record {
-      end-is = omega (arith, more-length (c .before .before .before .before .before .before .args .n) (c .before .before .before .before .if1 .left) (c .before .before .before .before .before .before .fits .n .fits));
-      out-is = rw (q, c .before .before .put-number .ensures .out-is, c .before .before .put-number .ensures .end-is) (sets-one (numeral (c .before .before .before .before .before .before .args .n / 10)) (c .before .before .before .before .before .before .args .out .now) (c .before .before .before .before .before .before .args .at) (48 + c .before .before .before .before .before .before .args .n % 10));
+      end-is =
+          omega (
+            arith,
+            more-length (c .before .before .before .before .before .before .args .n)
+                (c .before .before .before .before .if1 .left)
+                (c .before .before .before .before .before .before .fits .n .fits),
+          );
+      out-is =
+          rw (q, c .before .before .put-number .ensures .out-is, c .before .before .put-number .ensures .end-is)
+          (overwritten-one (numeral (c .before .before .before .before .before .before .args .n / 10))
+          (c .before .before .before .before .before .before .args .out .now)
+          (c .before .before .before .before .before .before .args .at)
+          (48 + c .before .before .before .before .before .before .args .n % 10));
     }
 
 pub +put-number-spec : {M : Type 1} → statement M

@@ -24,13 +24,23 @@ sub-result : tie.Need-sub-result Inv-loop μ-loop
 sub-result c = omega arith
 
 returns : tie.Need-returns Inv-loop μ-loop
-returns c = omega (arith, lead-out (c .before .before .before .before .args .s .now) (c .before .before .before .loop .i) (c .before .before .loop-test .taken) (below-digit (c .if1 .taken)))
+returns c =
+    omega (
+      arith,
+      lead-out (c .before .before .before .before .args .s .now) (c .before .before .before .loop .i)
+          (c .before .before .loop-test .taken) (below-digit (c .if1 .taken)),
+    )
 
 sub-result-2 : tie.Need-sub-result-2 Inv-loop μ-loop
 sub-result-2 c = omega arith
 
 returns-2 : tie.Need-returns-2 Inv-loop μ-loop
-returns-2 c = omega (arith, lead-out (c .before .before .before .before .before .args .s .now) (c .before .before .before .before .loop .i) (c .before .before .before .loop-test .taken) (above-digit (c .if2 .taken)))
+returns-2 c =
+    omega (
+      arith,
+      lead-out (c .before .before .before .before .before .args .s .now) (c .before .before .before .before .loop .i)
+          (c .before .before .before .loop-test .taken) (above-digit (c .if2 .taken)),
+    )
 
 add-i : tie.Need-add-i Inv-loop μ-loop
 add-i c = omega arith
@@ -40,7 +50,9 @@ loop-less c = omega arith
 
 loop-again : tie.Need-loop-again Inv-loop μ-loop
 loop-again c =
-    let h = lead-in (c .before .before .before .before .before .args .s .now) (c .before .before .before .before .loop .i) (c .before .before .before .loop-test .taken) (is-digit (c .before .if1 .left) (c .if2 .left)) in
+    let h =
+    lead-in (c .before .before .before .before .before .args .s .now) (c .before .before .before .before .loop .i)
+    (c .before .before .before .loop-test .taken) (is-digit (c .before .if1 .left) (c .if2 .left)) in
     rw add-one (omega arith)
 
 sub-result-3 : tie.Need-sub-result-3 Inv-loop μ-loop
@@ -50,4 +62,7 @@ returns-3 : tie.Need-returns-3 Inv-loop μ-loop
 returns-3 c = omega (arith, lead-end (c .before .before .args .s .now) (c .before .loop .i) (c .loop-test .left))
 
 pub digits-at-spec : {M : Type 1} → statement M
-digits-at-spec = tie.close (tie.spec Inv-loop μ-loop loop-holds shared-slice-read-c sub-result returns sub-result-2 returns-2 add-i loop-less loop-again sub-result-3 returns-3)
+digits-at-spec =
+    tie.close
+    (tie.spec Inv-loop μ-loop loop-holds shared-slice-read-c sub-result returns sub-result-2 returns-2 add-i loop-less
+    loop-again sub-result-3 returns-3)

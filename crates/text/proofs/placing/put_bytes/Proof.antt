@@ -3,13 +3,13 @@ use mathlib.Core.Path.{_≡_, refl, _∙_}
 use native.Mathlib.Omega.{arith}
 use borrow.Author.Tests.{le-leb, lt-leb}
 use lib.ListN.{length, take}
-use lib.Seq.{sets, length-sets, take-all}
+use lib.Seq.{sets as overwritten, length-sets, take-all}
 use Rattle.text.proofs.StoreLaws.{copied-more, put-none, put-whole}
 use Rattle.text.proofs.placing.put_bytes.Statement.{statement}
 use Rattle.text.proofs.placing.put_bytes.Tie as tie
 
 abbrev Inv-loop : tie.InvT-loop
-Inv-loop out₀ at text i₀ out i = (i ≤ length text) × (out ≡ sets out₀ at (take i text))
+Inv-loop out₀ at text i₀ out i = (i ≤ length text) × (out ≡ overwritten out₀ at (take i text))
 
 abbrev μ-loop : tie.MeasureT-loop
 μ-loop out₀ at text i₀ out i = length text - i
@@ -21,7 +21,8 @@ sub-if2 : tie.Need-sub-if2 Inv-loop μ-loop
 sub-if2 c = omega arith
 
 returns-2 : tie.Need-returns-2 Inv-loop μ-loop
-returns-2 c = put-none (lt-leb (c .before .before .args .at + length (c .before .before .args .text .now)) _ (omega arith))
+returns-2 c =
+    put-none (lt-leb (c .before .before .args .at + length (c .before .before .args .text .now)) _ (omega arith))
 
 loop-holds : tie.Need-loop-holds Inv-loop μ-loop
 loop-holds c = (omega arith, refl)
@@ -53,7 +54,16 @@ same-length c = rw (c .before .loop .inv .1) (simp length-sets)
 returns-3 : tie.Need-returns-3 Inv-loop μ-loop
 returns-3 c =
     let e : c .before .loop .i ≡ length (c .before .before .before .before .args .text .now) = omega arith in
-    put-whole (le-leb (c .before .before .before .before .args .at + length (c .before .before .before .before .args .text .now)) _ (omega arith)) (record { end-is = rw e; out-is = c .before .loop .inv .1 ∙ rw (take-all (c .before .loop .i) (c .before .before .before .before .args .text .now) (omega arith)) })
+    put-whole
+    (le-leb
+    (c .before .before .before .before .args .at + length (c .before .before .before .before .args .text .now)) _
+    (omega arith))
+    (record {
+      end-is = rw e;
+      out-is =
+          c .before .loop .inv .1
+          ∙ rw (take-all (c .before .loop .i) (c .before .before .before .before .args .text .now) (omega arith));
+    })
 
 pub put-bytes-spec : {M : Type 1} → statement M
 put-bytes-spec =

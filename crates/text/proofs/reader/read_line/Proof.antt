@@ -28,4 +28,5 @@ read-line-spec 𝓤 H 𝓜 𝓖 𝓡 =
     (tables 𝓤 H 𝓜 𝓡 code.env .C) (tables 𝓤 H 𝓜 𝓡 code.env .Λ) #own code.function (code.unfolded 𝓤 H 𝓜 𝓡)
     (reads returned lineAt 𝓤 H (𝓖 .A) (givenOf 𝓤 H 𝓜 𝓖) (tablesOf 𝓤 H 𝓜 (tables 𝓤 H 𝓜 𝓡 code.env)) #new #step
     (cited 𝓤 H (New 𝓤 H (𝓖 .A)) 𝓜 𝓡 code.env #new new-def.routine code.calls-text·reader·new (new-thm.met 𝓤 H 𝓜 𝓖 𝓡))
-    (cited 𝓤 H (Taken returned lineAt 𝓤 H (𝓖 .A)) 𝓜 𝓡 code.env #step step-def.routine code.calls-text·reader·form (step-thm.met 𝓤 H 𝓜 𝓖 𝓡)))
+    (cited 𝓤 H (Taken returned lineAt 𝓤 H (𝓖 .A)) 𝓜 𝓡 code.env #step step-def.routine code.calls-text·reader·form
+    (step-thm.met 𝓤 H 𝓜 𝓖 𝓡)))

@@ -35,7 +35,9 @@ read-line-requires c κs = tt
 
 returns : tie.Need-returns Inv-loop μ-loop
 returns c =
-    line-ends (c .before .before .before .before .before .loop .inv) (c .before .before .before .before .loop-test .taken) _ _ (c .before .before .if1 .taken) (c .read-line .ensures)
+    line-ends (c .before .before .before .before .before .loop .inv)
+    (c .before .before .before .before .loop-test .taken) _ _ (c .before .before .if1 .taken)
+    (c .read-line .ensures)
 
 array-write-held : tie.Need-array-write-held Inv-loop μ-loop
 array-write-held c = c .if2 .taken
@@ -47,13 +49,17 @@ loop-less : tie.Need-loop-less Inv-loop μ-loop
 loop-less c = omega arith
 
 loop-again : tie.Need-loop-again Inv-loop μ-loop
-loop-again c = byte-held (c .before .before .before .before .loop .inv) (c .before .before .before .loop-test .taken) (c .before .if1 .left) (c .if2 .taken)
+loop-again c =
+    byte-held (c .before .before .before .before .loop .inv) (c .before .before .before .loop-test .taken)
+    (c .before .if1 .left) (c .if2 .taken)
 
 loop-less-2 : tie.Need-loop-less-2 Inv-loop μ-loop
 loop-less-2 c = omega arith
 
 loop-again-2 : tie.Need-loop-again-2 Inv-loop μ-loop
-loop-again-2 c = byte-lost (c .before .before .before .before .loop .inv) (c .before .before .before .loop-test .taken) (c .before .if1 .left) (c .if2 .left)
+loop-again-2 c =
+    byte-lost (c .before .before .before .before .loop .inv) (c .before .before .before .loop-test .taken)
+    (c .before .if1 .left) (c .if2 .left)
 
 returns-2 : tie.Need-returns-2 Inv-loop μ-loop
 returns-2 c = chunk-ends (c .before .loop .inv) _ _ (c .loop-test .left)

@@ -3,7 +3,7 @@ use native.Mathlib.Nat.{zero-add}
 use native.Mathlib.Omega.{arith}
 use mathlib.Core.Path.{sym, _∙_}
 use Rattle.text.specs.Answers.{answerRoom}
-use Rattle.text.proofs.FeedLaws.{served}
+use Rattle.text.proofs.DeskLaws.{served}
 use Rattle.text.proofs.WholeLaws.{lent-room, in-part}
 use borrow.Author.Needs.{needs}
 use Rattle.text.proofs.session.last_at.Statement.{statement}
@@ -29,10 +29,14 @@ same-length c = search needs
 
 returns : tie.Need-returns
 returns c =
-    let a = c .before .before .before .before .before .before .before .before .args .at in
-    let l = c .before .before .before .before .before .before .before .before .args .out .now in
-    let e = served (lent-room answerRoom a l (c .before .before .before .before .before .before .before .before .pre)) (c .before .before .before .before .before .last .ensures) in
-    (e .book-is, in-part {l = l} {a = a} (omega arith) (e .at-in) (record { end-is = e .at-is ∙ sym (zero-add _); out-is = e .out-is }) .0)
+    let start = c .before .before .before .before .before .before .before .before in
+    let a = start .args .at in
+    let l = start .args .out .now in
+    let e = served (lent-room answerRoom a l (start .pre)) (c .before .before .before .before .before .last .ensures) in (
+      e .book-is,
+      in-part {l = l} {a = a} (omega arith) (e .at-in)
+          (record { end-is = e .at-is ∙ sym (zero-add _); out-is = e .out-is }) .0,
+    )
 
 pub last-at-spec : {M : Type 1} → statement M
 last-at-spec =

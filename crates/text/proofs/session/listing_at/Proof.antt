@@ -26,7 +26,12 @@ same-length : tie.Need-same-length
 same-length c = search needs
 
 returns : tie.Need-returns
-returns c = in-part (omega arith) (c .before .before .before .put-listing .ensures .1 .0) (put-stands (lent-room listingRoom (c .before .before .before .before .before .before .args .at) (c .before .before .before .before .before .before .args .out .now) (c .before .before .before .before .before .before .pre)) (c .before .before .before .put-listing .ensures .0))
+returns c =
+    in-part (omega arith) (c .before .before .before .put-listing .ensures .1 .0)
+    (put-stands
+    (lent-room listingRoom (c .before .before .before .before .before .before .args .at)
+    (c .before .before .before .before .before .before .args .out .now)
+    (c .before .before .before .before .before .before .pre)) (c .before .before .before .put-listing .ensures .0))
 
 pub listing-at-spec : {M : Type 1} → statement M
 listing-at-spec =

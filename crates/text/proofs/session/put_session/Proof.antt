@@ -7,27 +7,44 @@ use Rattle.text.proofs.session.put_session.Tie as tie
 open-desk-requires : tie.Need-open-desk-requires
 open-desk-requires c κs = search needs
 
-feed-requires : tie.Need-feed-requires
-feed-requires c κs = search needs
+take-in-requires : tie.Need-take-in-requires
+take-in-requires c κs = search needs
 
 last-at-requires : tie.Need-last-at-requires
-last-at-requires c κs = last-room (c .before .before .before .before .before .before .before .before .before .args .input .now) (c .before .before .before .before .before .before .before .before .before .pre) (c .before .before .before .before .before .before .open-desk .ensures) (c .before .before .before .before .feed .ensures)
+last-at-requires c κs =
+    let taken = c .before .before .before .before in
+    let start = taken .before .before .before .before .before in
+    last-room (start .args .input .now) (start .pre) (taken .before .before .open-desk .ensures)
+    (taken .take-in .ensures)
 
 listing-at-requires : tie.Need-listing-at-requires
-listing-at-requires c κs = listing-room (c .before .before .before .before .before .before .before .before .before .before .before .before .before .before .args .input .now) (c .before .before .before .before .before .before .before .before .before .before .before .before .before .before .pre) (c .before .before .before .before .before .before .before .before .before .before .before .open-desk .ensures) (c .before .before .before .before .before .before .before .before .before .feed .ensures) (c .before .before .before .before .last-at .ensures)
+listing-at-requires c κs =
+    let ended = c .before .before .before .before in
+    let taken = ended .before .before .before .before .before in
+    let start = taken .before .before .before .before .before in
+    listing-room (start .args .input .now) (start .pre) (taken .before .before .open-desk .ensures)
+    (taken .take-in .ensures) (ended .last-at .ensures)
 
 same-length : tie.Need-same-length
 same-length c = search needs
 
 returns : tie.Need-returns
-returns c = (whole (c .before .before .before .before .before .before .before .before .before .before .before .before .before .before .before .before .before .args .input .now) (c .before .before .before .before .before .before .before .before .before .before .before .before .before .before .before .before .before .pre) (c .before .before .before .before .before .before .before .before .before .before .before .before .before .before .open-desk .ensures) (c .before .before .before .before .before .before .before .before .before .before .before .before .feed .ensures) (c .before .before .before .before .before .before .before .last-at .ensures) (c .before .before .listing-at .ensures .0), c .before .before .listing-at .ensures .1)
+returns c =
+    let listed = c .before .before in
+    let ended = listed .before .before .before .before .before in
+    let taken = ended .before .before .before .before .before in
+    let start = taken .before .before .before .before .before in (
+      whole (start .args .input .now) (start .pre) (taken .before .before .open-desk .ensures)
+          (taken .take-in .ensures) (ended .last-at .ensures) (listed .listing-at .ensures .0),
+      listed .listing-at .ensures .1,
+    )
 
 pub put-session-spec : {M : Type 1} → statement M
 put-session-spec =
     tie.close
     (tie.spec
     open-desk-requires
-    feed-requires
+    take-in-requires
     last-at-requires
     listing-at-requires
     same-length

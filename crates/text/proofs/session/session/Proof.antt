@@ -15,7 +15,11 @@ add-if1 : tie.Need-add-if1
 add-if1 c = search needs
 
 returns : tie.Need-returns
-returns c = (put-none (lt-leb (0 + sessionRoom (length (c .before .before .before .args .input .now))) (length (c .before .before .before .args .out .now)) (omega arith)), (omega arith, refl))
+returns c = (
+  put-none (lt-leb (0 + sessionRoom (length (c .before .before .before .args .input .now)))
+      (length (c .before .before .before .args .out .now)) (omega arith)),
+  (omega arith, refl),
+)
 
 sub-if2 : tie.Need-sub-if2
 sub-if2 c = search needs
@@ -24,7 +28,11 @@ sub-if2-2 : tie.Need-sub-if2-2
 sub-if2-2 c = search needs
 
 returns-2 : tie.Need-returns-2
-returns-2 c = (put-none (lt-leb (0 + sessionRoom (length (c .before .before .before .before .args .input .now))) (length (c .before .before .before .before .args .out .now)) (omega arith)), (omega arith, refl))
+returns-2 c = (
+  put-none (lt-leb (0 + sessionRoom (length (c .before .before .before .before .args .input .now)))
+      (length (c .before .before .before .before .args .out .now)) (omega arith)),
+  (omega arith, refl),
+)
 
 put-session-requires : tie.Need-put-session-requires
 put-session-requires c κs = search needs
@@ -33,7 +41,13 @@ same-length : tie.Need-same-length
 same-length c = search needs
 
 returns-3 : tie.Need-returns-3
-returns-3 c = (put-whole (le-leb (0 + sessionRoom (length (c .before .before .before .before .before .before .before .before .args .input .now))) (length (c .before .before .before .before .before .before .before .before .args .out .now)) (omega arith)) (c .before .before .put-session .ensures .0), (c .before .before .put-session .ensures .1, sym (length-take-le _ _ (c .before .before .put-session .ensures .1))))
+returns-3 c = (
+  put-whole (le-leb
+      (0 + sessionRoom (length (c .before .before .before .before .before .before .before .before .args .input .now)))
+      (length (c .before .before .before .before .before .before .before .before .args .out .now)) (omega arith))
+      (c .before .before .put-session .ensures .0),
+  (c .before .before .put-session .ensures .1, sym (length-take-le _ _ (c .before .before .put-session .ensures .1))),
+)
 
 pub session-spec : {M : Type 1} → statement M
 session-spec =

@@ -85,6 +85,11 @@ pub raise-elsewhere : (l : List ℕ) (k j : Key) (n : ℕ) → In k → In j →
 unfolding raise
 raise-elsewhere l k j n = elsewhere l k j (figureAt l k + n)
 
+-- and so is what stands at any other place
+pub lower-apart : (l : List ℕ) (k j : Key) (n : ℕ) → place j ≢ place k → figureAt (lower l k n) j ≡ figureAt l j
+unfolding figureAt lower
+lower-apart l k j n h = getD-set-other l (place k) (place j) (getD l (place k) 0 - n) 0 h
+
 pub length-raise : (l : List ℕ) (k : Key) (n : ℕ) → length (raise l k n) ≡ length l
 unfolding raise
 length-raise l k n = simp length-set

@@ -1,16 +1,14 @@
 -- What an accepted trade, application or retirement says, as facts: the code's needs and the theorems cite these
 -- records, never a call's rows.
-use Prim.Native.Nat.{ℕ, _+_, _-_, _^_, _≤_, _<_}
+use Prim.Native.Nat.{ℕ, _+_, _^_, _≤_, _<_}
 use mathlib.Core.Bool.{true, false, not}
 use mathlib.Core.Logic.{_≢_}
 use mathlib.Core.Path.{_≡_}
 use native.Mathlib.Omega.{arith}
 use borrow.Author.Tests.{ltb-false, leb-false, eqb-false}
 use lib.Dec.{ltb, eqb}
-use lib.ListN.{getD, set as store}
-use lib.Seq.{getD-set-other}
 use Rattle.book.specs.Sizes.{makers, sets, allClosed}
-use Rattle.book.specs.Ledger.{Key, In, place, figureAt, lower, raise}
+use Rattle.book.specs.Ledger.{Key, In, figureAt, lower}
 use Rattle.book.specs.Soundness.{sound}
 use Rattle.book.specs.Life.{live, openShort, hasShortage}
 use Rattle.book.specs.Refusals.{firstRefusal}
@@ -23,6 +21,7 @@ use Rattle.book.specs.declared.kinds.Retirement.{Retirement}
 use Rattle.book.specs.declared.answers.Verdict.the-variants.{Accepted}
 use Rattle.book.proofs.TableLaws.{cleared}
 use Rattle.book.proofs.SoundnessLaws.{Sound, sound-is, sound-lot}
+use Rattle.book.proofs.LedgerLaws.{lower-apart}
 use Rattle.book.proofs.LifeLaws.{Live, live-is, OpenShort, open-is}
 
 -- a live vintage and an open shortage's year are years of the book
@@ -61,8 +60,8 @@ pub record Tradable (b : Book) (t : Trade) : Type 0 where
   pub buyer : In (buyerLot t)
   pub apart : t .from ≢ t .to
   pub clear : hasShortage (b .shortages) (t .from) (t .set) ≡ false
-  -- what the buyer's lot comes to is below 2 ^ 64
-  pub room : figureAt (b .lots) (buyerLot t) + t .mg < 2 ^ 64
+  -- what the buyer's lot comes to, once the seller's is lowered, is below 2 ^ 64
+  pub room : figureAt (lower (b .lots) (sellerLot t) (t .mg)) (buyerLot t) + t .mg < 2 ^ 64
 
 pub tradable :
     (b : Book) (t : Trade) → sound b ≡ true
@@ -77,25 +76,20 @@ tradable b t w e =
     let v : not (live (b .«open_year») (t .vintage)) ≡ false = search h in
     let p : Pays b (sellerLot t) (t .mg) = pays b (sellerLot t) (t .mg) s from among v (search h) (search h) in
     let i : In (buyerLot t) = live-in _ (buyerLot t) (s .high) to among v in
+    let apart : t .from ≢ t .to = eqb-false _ _ (search h) in
     record {
       seller = p;
       buyer = i;
-      apart = eqb-false _ _ (search h);
+      apart = apart;
       clear = search h;
-      room = omega (arith, sound-lot b s (sellerLot t) (p .lot), sound-lot b s (buyerLot t) i);
+      room =
+          omega (
+            arith,
+            sound-lot b s (sellerLot t) (p .lot),
+            sound-lot b s (buyerLot t) i,
+            lower-apart (b .lots) (sellerLot t) (buyerLot t) (t .mg) (λ q. apart (omega arith)),
+          );
     }
-
--- the code reads the buyer's lot before the seller's is lowered: they stand at two places
-pub swapped :
-    (b : Book) (t : Trade) → Tradable b t
-    → store (store (b .lots) (place (sellerLot t)) (getD (b .lots) (place (sellerLot t)) 0 - t .mg)) (place (buyerLot t))
-    (getD (b .lots) (place (buyerLot t)) 0 + t .mg)
-    ≡ raise (lower (b .lots) (sellerLot t) (t .mg)) (buyerLot t) (t .mg)
-unfolding figureAt lower raise
-swapped b t h =
-    let ne : place (buyerLot t) ≢ place (sellerLot t) = λ e. h .apart (omega arith) in
-    let left = getD (b .lots) (place (sellerLot t)) 0 - t .mg in
-    rw (getD-set-other (b .lots) (place (sellerLot t)) (place (buyerLot t)) left 0 ne)
 
 -- ---- apply
 pub record Applicable (b : Book) (p : Application) : Type 0 where

@@ -15,7 +15,7 @@ use crate::ledger::Book;
 use crate::ledger::MAKERS;
 use crate::ledger::SETS;
 use crate::ledger::figure_at;
-use crate::ledger::place_of;
+use crate::ledger::lower_figure;
 use crate::life::is_live;
 use crate::life::is_open;
 use figuring::units::Mg;
@@ -41,12 +41,8 @@ pub fn apply(book: Book, p: Application) -> Posted
         ) {
             Verdict::Refuse(why) => Answer::Refused(why),
             Verdict::Accepted => {
-                let pays = place_of(p.maker, p.set, p.vintage) as usize;
-                let gets = place_of(p.maker, p.set, p.year) as usize;
-                let left = after.lots[pays] - p.mg;
-                let open = after.shortages[gets] - p.mg;
-                after.lots[pays] = left;
-                after.shortages[gets] = open;
+                let left = lower_figure(&mut after.lots, p.maker, p.set, p.vintage, p.mg);
+                lower_figure(&mut after.shortages, p.maker, p.set, p.year, p.mg);
                 Answer::Left(Mg(left))
             }
         },

@@ -2,9 +2,9 @@
 // Mg. Part and Mg are the types of every call's results.
 // A copy of it is 29 KB. So a step makes one copy, works on that and has one exit, and its verdict is lent the arrays.
 ghost use mathlib.Core.Path.{_≡_};
-ghost use Prim.Native.Nat.{_+_, _*_, _<_};
+ghost use Prim.Native.Nat.{_+_, _-_, _*_, _^_, _<_, _≤_};
 ghost use Rattle.book.specs.Sizes.{families, places};
-ghost use Rattle.book.specs.Ledger.{key, In, place, figureAt, marked, withMark};
+ghost use Rattle.book.specs.Ledger.{key, In, place, figureAt, lower, raise, marked, withMark};
 ghost use Rattle.book.specs.Postings.{freshBook};
 use figuring::years::FIRST_YEAR;
 
@@ -57,6 +57,34 @@ pub(crate) fn figure_at(figures: &[u64; 768], maker: u64, set: u64, year: u64) -
     ensures { λ r. ⌜ r ≡ figureAt (now (figures .entry)) (key maker set year) ⌝ }
 {
     figures[place_of(maker, set, year) as usize]
+}
+
+// A figure lowered by some Mg; what is left of it.
+pub(crate) fn lower_figure(
+    figures: &mut [u64; 768],
+    maker: u64,
+    set: u64,
+    year: u64,
+    mg: u64,
+) -> u64
+    requires { ⌜ In (key maker set year) × (mg ≤ figureAt (now figures) (key maker set year)) ⌝ }
+    ensures { λ r. ⌜ (r ≡ figureAt (now (figures .entry)) (key maker set year) - mg)
+        × (now (figures .exit) ≡ lower (now (figures .entry)) (key maker set year) mg) ⌝ }
+{
+    let place = place_of(maker, set, year) as usize;
+    let left = figures[place] - mg;
+    figures[place] = left;
+    left
+}
+
+// A figure raised by some Mg.
+pub(crate) fn raise_figure(figures: &mut [u64; 768], maker: u64, set: u64, year: u64, mg: u64)
+    requires { ⌜ In (key maker set year) × (figureAt (now figures) (key maker set year) + mg < 2 ^ 64) ⌝ }
+    ensures { λ r. ⌜ now (figures .exit) ≡ raise (now (figures .entry)) (key maker set year) mg ⌝ }
+{
+    let place = place_of(maker, set, year) as usize;
+    let more = figures[place] + mg;
+    figures[place] = more;
 }
 
 // Whether the family's bit of a mark is one.

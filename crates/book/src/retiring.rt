@@ -15,7 +15,7 @@ use crate::ledger::Book;
 use crate::ledger::MAKERS;
 use crate::ledger::SETS;
 use crate::ledger::figure_at;
-use crate::ledger::place_of;
+use crate::ledger::lower_figure;
 use crate::life::has_shortage;
 use crate::life::is_live;
 use figuring::units::Mg;
@@ -41,9 +41,7 @@ pub fn retire(book: Book, p: Retirement) -> Posted
         ) {
             Verdict::Refuse(why) => Answer::Refused(why),
             Verdict::Accepted => {
-                let pays = place_of(p.maker, p.set, p.vintage) as usize;
-                let left = after.lots[pays] - p.mg;
-                after.lots[pays] = left;
+                let left = lower_figure(&mut after.lots, p.maker, p.set, p.vintage, p.mg);
                 Answer::Left(Mg(left))
             }
         },

@@ -15,7 +15,8 @@ use crate::ledger::Book;
 use crate::ledger::MAKERS;
 use crate::ledger::SETS;
 use crate::ledger::figure_at;
-use crate::ledger::place_of;
+use crate::ledger::lower_figure;
+use crate::ledger::raise_figure;
 use crate::life::has_shortage;
 use crate::life::is_live;
 use figuring::units::Mg;
@@ -41,12 +42,8 @@ pub fn trade(book: Book, t: Trade) -> Posted
         ) {
             Verdict::Refuse(why) => Answer::Refused(why),
             Verdict::Accepted => {
-                let pays = place_of(t.from, t.set, t.vintage) as usize;
-                let gets = place_of(t.to, t.set, t.vintage) as usize;
-                let left = after.lots[pays] - t.mg;
-                let more = after.lots[gets] + t.mg;
-                after.lots[pays] = left;
-                after.lots[gets] = more;
+                let left = lower_figure(&mut after.lots, t.from, t.set, t.vintage, t.mg);
+                raise_figure(&mut after.lots, t.to, t.set, t.vintage, t.mg);
                 Answer::Left(Mg(left))
             }
         },

@@ -1,10 +1,7 @@
--- Accepted, an application is `Applicable`: the two places and the bounds.
 use mathlib.Core.Bool.{true}
 use mathlib.Core.List.{List}
 use mathlib.Core.Path.{_≡_, sym, _∙_}
-use native.Mathlib.Omega.{arith}
 use borrow.Author.Needs.{needs}
-use Rattle.book.specs.Ledger.{figureAt, lower}
 use Rattle.book.specs.Soundness.{sound}
 use Rattle.book.specs.Refusals.{Row, firstRefusal}
 use Rattle.book.specs.Rules.{headRows, ownRows, done, applyRows}
@@ -69,47 +66,11 @@ enum-known-why c = search needs
 enum-told-2 : tie.Need-enum-told-2
 enum-told-2 c = search needs
 
-place-of-requires : tie.Need-place-of-requires
-place-of-requires c κs = facts c .payer .lot
+lower-figure-requires : tie.Need-lower-figure-requires
+lower-figure-requires c κs = (facts (c .before) .payer .lot, facts (c .before) .payer .enough)
 
-place-of-requires-2 : tie.Need-place-of-requires-2
-place-of-requires-2 c κs = facts (c .before) .covered
-
-mul-left : tie.Need-mul-left
-mul-left c = search needs
-
-element-copy-out-left : tie.Need-element-copy-out-left
-element-copy-out-left c = search needs
-
-sub-left : tie.Need-sub-left
-unfolding figureAt
-sub-left c =
-    rw (c .before .before .before .place-of .ensures .0)
-    (facts (c .before .before .before .before) .payer .enough)
-
-mul-open : tie.Need-mul-open
-mul-open c = search needs
-
-element-copy-out-open : tie.Need-element-copy-out-open
-element-copy-out-open c = search needs
-
-sub-open : tie.Need-sub-open
-unfolding figureAt
-sub-open c =
-    rw (c .before .before .before .before .place-of2 .ensures .0)
-    (facts (c .before .before .before .before .before .before) .enough)
-
-mul-after : tie.Need-mul-after
-mul-after c = search needs
-
-element-write-after : tie.Need-element-write-after
-element-write-after c = search needs
-
-mul-after-2 : tie.Need-mul-after-2
-mul-after-2 c = search needs
-
-element-write-after-2 : tie.Need-element-write-after-2
-element-write-after-2 c = search needs
+lower-figure-requires-2 : tie.Need-lower-figure-requires-2
+lower-figure-requires-2 c κs = let w = facts (c .before .before .before) in (w .covered, w .enough)
 
 returns : tie.Need-returns
 returns c = sym (head-refuses _ _ (sym (headed (c .before .before .before)) ∙ c .before .head .given .1))
@@ -121,13 +82,11 @@ returns-2 c =
     sym (own-decide _ (Call.Apply _) (book-sound (passed w)) (sym (said w) ∙ c .before .why .given .1))
 
 returns-3 : tie.Need-returns-3
-unfolding ownRows done applicationDone figureAt lower
+unfolding ownRows done applicationDone
 returns-3 c =
-    let w = c .before .before .before .before .before .before in
-    rw (
-      c .before .before .before .before .before .place-of .ensures .0,
-      c .before .before .before .before .place-of2 .ensures .0,
-    )
+    let w = c .before .before .before .before in
+    let paid = c .before .before .lower-figure .ensures in
+    rw (c .lower-figure2 .ensures .1, paid .1, paid .0)
     (sym (own-decide _ (Call.Apply _) (book-sound (taken w)) (accepted w)))
 
 pub apply-spec : {M : Type 1} → statement M
@@ -140,18 +99,8 @@ apply-spec =
     apply-verdict-requires
     enum-known-why
     enum-told-2
-    place-of-requires
-    place-of-requires-2
-    mul-left
-    element-copy-out-left
-    sub-left
-    mul-open
-    element-copy-out-open
-    sub-open
-    mul-after
-    element-write-after
-    mul-after-2
-    element-write-after-2
+    lower-figure-requires
+    lower-figure-requires-2
     returns
     returns-2
     returns-3)

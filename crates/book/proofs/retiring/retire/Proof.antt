@@ -1,10 +1,7 @@
--- Accepted, a retirement is `Retirable`: its place and the bound.
 use mathlib.Core.Bool.{true}
 use mathlib.Core.List.{List}
 use mathlib.Core.Path.{_≡_, sym, _∙_}
-use native.Mathlib.Omega.{arith}
 use borrow.Author.Needs.{needs}
-use Rattle.book.specs.Ledger.{figureAt, lower}
 use Rattle.book.specs.Soundness.{sound}
 use Rattle.book.specs.Refusals.{Row, firstRefusal}
 use Rattle.book.specs.Rules.{headRows, ownRows, done, retireRows}
@@ -69,25 +66,8 @@ enum-known-why c = search needs
 enum-told-2 : tie.Need-enum-told-2
 enum-told-2 c = search needs
 
-place-of-requires : tie.Need-place-of-requires
-place-of-requires c κs = facts c .payer .lot
-
-mul-left : tie.Need-mul-left
-mul-left c = search needs
-
-element-copy-out-left : tie.Need-element-copy-out-left
-element-copy-out-left c = search needs
-
-sub-left : tie.Need-sub-left
-unfolding figureAt
-sub-left c =
-    rw (c .before .before .place-of .ensures .0) (facts (c .before .before .before) .payer .enough)
-
-mul-after : tie.Need-mul-after
-mul-after c = search needs
-
-element-write-after : tie.Need-element-write-after
-element-write-after c = search needs
+lower-figure-requires : tie.Need-lower-figure-requires
+lower-figure-requires c κs = (facts (c .before) .payer .lot, facts (c .before) .payer .enough)
 
 returns : tie.Need-returns
 returns c = sym (head-refuses _ _ (sym (headed (c .before .before .before)) ∙ c .before .head .given .1))
@@ -99,10 +79,10 @@ returns-2 c =
     sym (own-decide _ (Call.Retire _) (book-sound (passed w)) (sym (said w) ∙ c .before .why .given .1))
 
 returns-3 : tie.Need-returns-3
-unfolding ownRows done retirementDone figureAt lower
+unfolding ownRows done retirementDone
 returns-3 c =
-    let w = c .before .before .before in
-    rw (c .before .before .place-of .ensures .0)
+    let w = c .before .before in
+    rw (c .lower-figure .ensures .1, c .lower-figure .ensures .0)
     (sym (own-decide _ (Call.Retire _) (book-sound (taken w)) (accepted w)))
 
 pub retire-spec : {M : Type 1} → statement M
@@ -115,12 +95,7 @@ retire-spec =
     retire-verdict-requires
     enum-known-why
     enum-told-2
-    place-of-requires
-    mul-left
-    element-copy-out-left
-    sub-left
-    mul-after
-    element-write-after
+    lower-figure-requires
     returns
     returns-2
     returns-3)

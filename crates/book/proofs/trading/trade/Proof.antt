@@ -1,10 +1,7 @@
--- Accepted, a trade is `Tradable`: the two places, the bounds, and that the places differ.
 use mathlib.Core.Bool.{true}
 use mathlib.Core.List.{List}
 use mathlib.Core.Path.{_≡_, sym, _∙_}
-use native.Mathlib.Omega.{arith}
 use borrow.Author.Needs.{needs}
-use Rattle.book.specs.Ledger.{figureAt}
 use Rattle.book.specs.Soundness.{sound}
 use Rattle.book.specs.Refusals.{Row, firstRefusal}
 use Rattle.book.specs.Rules.{headRows, ownRows, done, tradeRows}
@@ -13,7 +10,7 @@ use Rattle.book.specs.declared.kinds.Call.{Call}
 use Rattle.book.specs.declared.answers.Verdict.the-variants.{Accepted}
 use Rattle.book.proofs.TableLaws.{head-sound, head-refuses, own-decide}
 use Rattle.book.proofs.SoundnessLaws.{sound-is}
-use Rattle.book.proofs.MoveFacts.{Tradable, tradable, swapped}
+use Rattle.book.proofs.MoveFacts.{Tradable, tradable}
 use Rattle.book.proofs.trading.trade.Statement.{statement}
 use Rattle.book.proofs.trading.trade.Tie as tie
 
@@ -69,47 +66,13 @@ enum-known-why c = search needs
 enum-told-2 : tie.Need-enum-told-2
 enum-told-2 c = search needs
 
-place-of-requires : tie.Need-place-of-requires
-place-of-requires c κs = facts c .seller .lot
+lower-figure-requires : tie.Need-lower-figure-requires
+lower-figure-requires c κs = (facts (c .before) .seller .lot, facts (c .before) .seller .enough)
 
-place-of-requires-2 : tie.Need-place-of-requires-2
-place-of-requires-2 c κs = facts (c .before) .buyer
-
-mul-left : tie.Need-mul-left
-mul-left c = search needs
-
-element-copy-out-left : tie.Need-element-copy-out-left
-element-copy-out-left c = search needs
-
-sub-left : tie.Need-sub-left
-unfolding figureAt
-sub-left c =
-    rw (c .before .before .before .place-of .ensures .0)
-    (facts (c .before .before .before .before) .seller .enough)
-
-mul-more : tie.Need-mul-more
-mul-more c = search needs
-
-element-copy-out-more : tie.Need-element-copy-out-more
-element-copy-out-more c = search needs
-
-add-more : tie.Need-add-more
-unfolding figureAt
-add-more c =
-    rw (c .before .before .before .before .place-of2 .ensures .0)
-    (omega (arith, facts (c .before .before .before .before .before .before) .room))
-
-mul-after : tie.Need-mul-after
-mul-after c = search needs
-
-element-write-after : tie.Need-element-write-after
-element-write-after c = search needs
-
-mul-after-2 : tie.Need-mul-after-2
-mul-after-2 c = search needs
-
-element-write-after-2 : tie.Need-element-write-after-2
-element-write-after-2 c = search needs
+raise-figure-requires : tie.Need-raise-figure-requires
+raise-figure-requires c κs =
+    let w = facts (c .before .before .before) in
+    (w .buyer, rw (c .before .lower-figure .ensures .1) (w .room))
 
 returns : tie.Need-returns
 returns c = sym (head-refuses _ _ (sym (headed (c .before .before .before)) ∙ c .before .head .given .1))
@@ -121,14 +84,10 @@ returns-2 c =
     sym (own-decide _ (Call.Trade _) (book-sound (passed w)) (sym (said w) ∙ c .before .why .given .1))
 
 returns-3 : tie.Need-returns-3
-unfolding ownRows done tradeDone figureAt
+unfolding ownRows done tradeDone
 returns-3 c =
-    let w = c .before .before .before .before .before .before in
-    rw (
-      c .before .before .before .before .before .place-of .ensures .0,
-      c .before .before .before .before .place-of2 .ensures .0,
-      swapped _ _ (facts w),
-    )
+    let w = c .before .before .before .before in
+    rw (c .raise-figure .ensures, c .before .before .lower-figure .ensures .1, c .before .before .lower-figure .ensures .0)
     (sym (own-decide _ (Call.Trade _) (book-sound (taken w)) (accepted w)))
 
 pub trade-spec : {M : Type 1} → statement M
@@ -141,18 +100,8 @@ trade-spec =
     trade-verdict-requires
     enum-known-why
     enum-told-2
-    place-of-requires
-    place-of-requires-2
-    mul-left
-    element-copy-out-left
-    sub-left
-    mul-more
-    element-copy-out-more
-    add-more
-    mul-after
-    element-write-after
-    mul-after-2
-    element-write-after-2
+    lower-figure-requires
+    raise-figure-requires
     returns
     returns-2
     returns-3)

@@ -10,6 +10,7 @@ use native.Mathlib.Nat.{le-refl, suc-mul}
 use native.Mathlib.Decide.{ℕ-discrete}
 use lib.IntN.{ℤ, pos, natAbs, _+ℤ_, +ℤ-assoc, +ℤ-comm}
 use Rattle.figuring.proofs.SignedLaws.{abs-add}
+use Rattle.figuring.proofs.BoolLaws.{and-intro}
 use Rattle.book.specs.Below.{allBelow, anyBelow, sumBelow, sumBelowℤ, countBelow, oneIf}
 
 -- ---- one more
@@ -81,15 +82,6 @@ pub sum-done : (f : ℕ → ℕ) (n i : ℕ) → i ≤ n → n ≤ i → sumBelo
 sum-done f n i l g = ap (λ (k : ℕ). sumBelow k f) (omega arith)
 
 -- ---- two tests
-pub and-intro : {a b : Bool} → a ≡ true → b ≡ true → (a && b) ≡ true
-and-intro h k = rw (h, k)
-
-pub first-fails : {a : Bool} (b : Bool) → a ≡ false → (a && b) ≡ false
-first-fails b h = rw h
-
-pub second-fails : (a : Bool) {b : Bool} → b ≡ false → (a && b) ≡ false
-second-fails a h = rw h (and-false a)
-
 -- ---- every one of them
 pub all-of : (p : ℕ → Bool) (n : ℕ) → ((i : ℕ) → i < n → p i ≡ true) → allBelow n p ≡ true
 unfolding allBelow

@@ -11,7 +11,7 @@ use Rattle.book.specs.Companions.{Sized}
 use Rattle.book.specs.declared.ledger.Book.{Book}
 use Rattle.book.specs.declared.kinds.Call.{Call}
 use Rattle.book.proofs.SoundnessLaws.{Sound}
-use Rattle.book.proofs.LifeLaws.{Old}
+use Rattle.figuring.proofs.LifeLaws.{Old}
 use Rattle.book.proofs.Balances.{Agree}
 
 pub record Lawful (b : Book) (c : Call) : Type 0 where

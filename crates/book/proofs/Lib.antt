@@ -4,7 +4,7 @@ pub mod TableLaws
 pub mod LedgerLaws
 pub mod PlaceLaws
 pub mod SoundnessLaws
-pub mod LifeLaws
+pub mod ListingLaws
 pub mod FileFacts
 pub mod CloseFacts
 pub mod MoveFacts

@@ -9,7 +9,7 @@ use Rattle.figuring.specs.Netting.{earnedOf}
 use Rattle.figuring.proofs.MarkedLaws as Figuring
 use Rattle.book.specs.Below.{sumBelowℤ}
 use Rattle.book.specs.Ledger.{key, figureAt, marked, cellSum}
-use Rattle.book.specs.Life.{live, expired, openShort, overdue, closedYear}
+use Rattle.figuring.specs.Life.{live, expired, openShort, overdue, closedYear}
 use Rattle.book.specs.Soundness.{sound}
 use Rattle.book.specs.Refusals.{refusalIn}
 use Rattle.book.specs.Postings.{freshBook, stored, closeDone, earnedBy}

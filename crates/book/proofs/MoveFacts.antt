@@ -8,9 +8,9 @@ use native.Mathlib.Omega.{arith}
 use borrow.Author.Tests.{ltb-false, leb-false, eqb-false}
 use lib.Dec.{ltb, eqb}
 use Rattle.book.specs.Sizes.{makers, sets, allClosed}
-use Rattle.book.specs.Ledger.{Key, In, figureAt, lower}
+use Rattle.book.specs.Ledger.{Key, In, figureAt, lower, hasShortage}
 use Rattle.book.specs.Soundness.{sound}
-use Rattle.book.specs.Life.{live, openShort, hasShortage}
+use Rattle.figuring.specs.Life.{live, openShort}
 use Rattle.book.specs.Refusals.{firstRefusal}
 use Rattle.book.specs.Rules.{tradeRows, applyRows, retireRows}
 use Rattle.book.specs.Postings.{sellerLot, buyerLot, appliedLot, coveredShortage, retiredLot}
@@ -22,7 +22,7 @@ use Rattle.book.specs.declared.answers.Verdict.the-variants.{Accepted}
 use Rattle.book.proofs.TableLaws.{cleared}
 use Rattle.book.proofs.SoundnessLaws.{Sound, sound-is, sound-lot}
 use Rattle.book.proofs.LedgerLaws.{lower-apart}
-use Rattle.book.proofs.LifeLaws.{Live, live-is, OpenShort, open-is}
+use Rattle.figuring.proofs.LifeLaws.{Live, live-is, OpenShort, open-is}
 
 -- a live vintage and an open shortage's year are years of the book
 module _ (Y : ℕ) (k : Key) (high : Y ≤ allClosed) (m : k .maker < makers) (i : k .set < sets) where

@@ -17,7 +17,8 @@ use Rattle.book.specs.Ledger.{key, cell, figureAt, partAt}
 use Rattle.book.specs.Soundness.{partSound, familySound, figuresSound, yearSound, cellSound, makerSound, cellsSound}
 use Rattle.book.specs.Soundness.{lotOf, totalSound, setSound, totalsSound}
 use Rattle.book.specs.declared.ledger.Book.{Book}
-use Rattle.book.proofs.BelowLaws.{all-fails, first-fails, second-fails, sum-more, sum-rises, sum-done}
+use Rattle.book.proofs.BelowLaws.{all-fails, sum-more, sum-rises, sum-done}
+use Rattle.figuring.proofs.BoolLaws.{first-fails, second-fails}
 
 -- where a year, counted from the first, stands
 pub at-year : (l : List ℕ) (m s i : ℕ) → figureAt l (key m s (firstYear + i)) ≡ getD l ((m * sets + s) * years + i) 0

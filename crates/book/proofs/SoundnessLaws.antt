@@ -9,13 +9,13 @@ use lib.ListN.{getD}
 use lib.IntN.{ℤ, pos, negsuc, natAbs}
 use Rattle.figuring.specs.Years.{firstYear}
 use Rattle.figuring.specs.Parts.{partMost}
-use Rattle.figuring.proofs.BoolLaws.{both}
+use Rattle.figuring.proofs.BoolLaws.{both, and-intro}
 use Rattle.book.specs.Sizes.{makers, sets, cells, families, years, allClosed, shortageMost, lotsMost}
 use Rattle.book.specs.Below.{allBelow, sumBelow}
 use Rattle.book.specs.Ledger.{Key, key, In, figureAt, cell, marked, partAt}
 use Rattle.book.specs.Soundness.{sound, yearInRange, cellsSound, makerSound, cellSound, familySound, partSound, yearSound, figuresSound, totalsSound, setSound, totalSound, lotOf}
 use Rattle.book.specs.declared.ledger.Book.{Book}
-use Rattle.book.proofs.BelowLaws.{all-at, all-of, and-intro, sum-at}
+use Rattle.book.proofs.BelowLaws.{all-at, all-of, sum-at}
 
 pub record Sound (b : Book) : Type 0 where
   pub low : firstYear ≤ b .«open_year»

@@ -6,14 +6,14 @@ use mathlib.Core.List.{List, [], _∷_}
 use mathlib.Core.Path.{_≡_, refl, _∙_}
 use native.Mathlib.Omega.{arith}
 use Rattle.book.specs.Ledger.{Key, In, figureAt}
-use Rattle.book.specs.Life.{expired, overdue}
+use Rattle.figuring.specs.Life.{expired, overdue}
 use Rattle.book.specs.Rules.{posted}
 use Rattle.book.specs.Demand3.{bookAfter}
 use Rattle.book.specs.Companions.{Stays}
 use Rattle.book.specs.declared.ledger.Book.{Book}
 use Rattle.book.specs.declared.kinds.Call.{Call}
 use Rattle.book.proofs.TableLaws.{by-verdict}
-use Rattle.book.proofs.LifeLaws.{Old, old-is, is-old}
+use Rattle.figuring.proofs.LifeLaws.{Old, old-is, is-old}
 use Rattle.book.proofs.CallLaws.{lawful}
 
 -- ---- one call

@@ -5,12 +5,12 @@ use mathlib.Core.Bool.{Bool}
 use mathlib.Core.List.{List}
 use lib.Bits.{bitOr}
 use lib.Count.{ones}
-use lib.Dec.{eqb}
+use lib.Dec.{ltb, eqb}
 use lib.ListN.{getD, set as store}
 use lib.IntN.{ℤ, pos}
 use Rattle.figuring.specs.Years.{firstYear, lastYear}
 use Rattle.book.specs.Sizes.{makers, sets, families, years}
-use Rattle.book.specs.Below.{sumBelowℤ}
+use Rattle.book.specs.Below.{anyBelow, sumBelowℤ}
 use Rattle.book.specs.declared.ledger.Book.{Book}
 
 -- the book that an open year and four arrays make: soundness speaks of it where a book's arrays are lent
@@ -51,6 +51,13 @@ lower l k n = store l (place k) (figureAt l k - n)
 
 unfoldable pub raise : List ℕ → Key → ℕ → List ℕ
 raise l k n = store l (place k) (figureAt l k + n)
+
+-- a shortage above 0 in any year; in a sound book that year is closed, so the shortage is open or overdue
+abbrev pub shortIn : List ℕ → ℕ → ℕ → ℕ → Bool
+shortIn shortages m s i = ltb 0 (figureAt shortages (key m s (firstYear + i)))
+
+unfoldable pub hasShortage : List ℕ → ℕ → ℕ → Bool
+hasShortage shortages m s = anyBelow years (shortIn shortages m s)
 
 -- "a 64-bit filing mark, one bit a family"
 unfoldable pub marked : ℕ → ℕ → Bool

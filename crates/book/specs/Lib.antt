@@ -2,7 +2,6 @@ pub mod Sizes
 pub mod Below
 pub mod Ledger
 pub mod Soundness
-pub mod Life
 pub mod Refusals
 pub mod Postings
 pub mod Rules

@@ -6,7 +6,7 @@ use lib.Dec.{ltb, leb}
 use Rattle.figuring.specs.Years.{firstYear, lastYear}
 use Rattle.book.specs.Sizes.{makers, sets}
 use Rattle.book.specs.Ledger.{key, figureAt}
-use Rattle.book.specs.Life.{live, expired, openShort, overdue}
+use Rattle.figuring.specs.Life.{live, expired, openShort, overdue}
 use Rattle.book.specs.declared.listing.LotEntry.{LotEntry}
 use Rattle.book.specs.declared.listing.ShortageEntry.{ShortageEntry}
 

@@ -4,7 +4,7 @@ use mathlib.Core.Path.{_≡_}
 use mathlib.Core.Bool.{true}
 use lib.IntN.{pos}
 use Rattle.figuring.specs.Marked.{FiguringMarked}
-use Rattle.book.specs.Life.{live, expired, openShort, overdue}
+use Rattle.figuring.specs.Life.{live, expired, openShort, overdue}
 use Rattle.book.specs.Refusals.{refusalIn}
 use Rattle.book.specs.Ledger.{key, figureAt}
 use Rattle.book.specs.Postings.{emptyIn, freshBook, stored}

@@ -10,9 +10,9 @@ use lib.ListN.{getD}
 use Rattle.figuring.specs.Standards.{standardFor, isAbsent}
 use Rattle.figuring.specs.Parts.{withinLimits}
 use Rattle.book.specs.Sizes.{makers, sets, families, allClosed}
-use Rattle.book.specs.Ledger.{figureAt, marked}
+use Rattle.book.specs.Ledger.{figureAt, marked, hasShortage}
 use Rattle.book.specs.Soundness.{sound}
-use Rattle.book.specs.Life.{live, openShort, hasShortage}
+use Rattle.figuring.specs.Life.{live, openShort}
 use Rattle.book.specs.Refusals.{Row, _⇒_, firstRefusal, numberOf}
 use Rattle.book.specs.Postings.{filingDone, closeDone, tradeDone, applicationDone, retirementDone}
 use Rattle.book.specs.Postings.{filingCell, sellerLot, appliedLot, coveredShortage, retiredLot}

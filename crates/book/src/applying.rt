@@ -16,8 +16,8 @@ use crate::ledger::MAKERS;
 use crate::ledger::SETS;
 use crate::ledger::figure_at;
 use crate::ledger::lower_figure;
-use crate::life::is_live;
-use crate::life::is_open;
+use figuring::life::is_live;
+use figuring::life::is_open;
 use figuring::units::Mg;
 
 pub fn apply(book: Book, p: Application) -> Posted

@@ -3,8 +3,8 @@
 // A copy of it is 29 KB. So a step makes one copy, works on that and has one exit, and its verdict is lent the arrays.
 ghost use mathlib.Core.Path.{_≡_};
 ghost use Prim.Native.Nat.{_+_, _-_, _*_, _^_, _<_, _≤_};
-ghost use Rattle.book.specs.Sizes.{families, places};
-ghost use Rattle.book.specs.Ledger.{key, In, place, figureAt, lower, raise, marked, withMark};
+ghost use Rattle.book.specs.Sizes.{makers, sets, families, places};
+ghost use Rattle.book.specs.Ledger.{key, In, place, figureAt, lower, raise, hasShortage, marked, withMark};
 ghost use Rattle.book.specs.Postings.{freshBook};
 use figuring::years::FIRST_YEAR;
 
@@ -85,6 +85,19 @@ pub(crate) fn raise_figure(figures: &mut [u64; 768], maker: u64, set: u64, year:
     let place = place_of(maker, set, year) as usize;
     let more = figures[place] + mg;
     figures[place] = more;
+}
+
+// Whether a cell has a shortage above 0 in any year.
+pub(crate) fn has_shortage(shortages: &[u64; 768], maker: u64, set: u64) -> bool
+    requires { ⌜ (maker < makers) × (set < sets) ⌝ }
+    ensures { λ r. ⌜ r ≡ hasShortage (now (shortages .entry)) maker set ⌝ }
+{
+    for i in 0..YEARS {
+        if shortages[((maker * SETS + set) * YEARS + i) as usize] > 0 {
+            return true;
+        }
+    }
+    false
 }
 
 // Whether the family's bit of a mark is one.

@@ -8,7 +8,6 @@ mod head;
 pub mod in_place;
 pub mod kinds;
 pub mod ledger;
-pub mod life;
 pub mod listing;
 pub mod posting;
 pub mod retiring;

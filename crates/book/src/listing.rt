@@ -5,10 +5,10 @@ ghost use Rattle.book.specs.Listing.{lotEntry, shortageEntry, isCellYear
 use crate::ledger::MAKERS;
 use crate::ledger::SETS;
 use crate::ledger::figure_at;
-use crate::life::is_expired;
-use crate::life::is_live;
-use crate::life::is_open;
-use crate::life::is_overdue;
+use figuring::life::is_expired;
+use figuring::life::is_live;
+use figuring::life::is_open;
+use figuring::life::is_overdue;
 use figuring::units::Mg;
 use figuring::years::FIRST_YEAR;
 use figuring::years::LAST_YEAR;

@@ -15,9 +15,9 @@ use crate::ledger::Book;
 use crate::ledger::MAKERS;
 use crate::ledger::SETS;
 use crate::ledger::figure_at;
+use crate::ledger::has_shortage;
 use crate::ledger::lower_figure;
-use crate::life::has_shortage;
-use crate::life::is_live;
+use figuring::life::is_live;
 use figuring::units::Mg;
 
 pub fn retire(book: Book, p: Retirement) -> Posted

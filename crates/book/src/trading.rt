@@ -15,10 +15,10 @@ use crate::ledger::Book;
 use crate::ledger::MAKERS;
 use crate::ledger::SETS;
 use crate::ledger::figure_at;
+use crate::ledger::has_shortage;
 use crate::ledger::lower_figure;
 use crate::ledger::raise_figure;
-use crate::life::has_shortage;
-use crate::life::is_live;
+use figuring::life::is_live;
 use figuring::units::Mg;
 
 pub fn trade(book: Book, t: Trade) -> Posted

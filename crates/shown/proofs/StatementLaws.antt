@@ -11,7 +11,7 @@ use lib.ListN.{getD, drop}
 use Rattle.figuring.specs.Years.{firstYear, lastYear}
 use Rattle.book.specs.Sizes.{makers, sets, years}
 use Rattle.book.specs.Ledger.{Key, key, In, figureAt}
-use Rattle.book.specs.Life.{closedYear, live, expired, openShort, overdue}
+use Rattle.figuring.specs.Life.{closedYear, live, expired, openShort, overdue}
 use Rattle.book.specs.Listing.{isCellYear, lotIf, lotEntry, shortageIf, shortageEntry}
 use Rattle.book.specs.Accounts.{Accounts, move, feed, feedAll}
 use Rattle.book.specs.Postings.{stored, closeDone, tradeDone, applicationDone, retirementDone}

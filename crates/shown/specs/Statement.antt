@@ -5,7 +5,7 @@ use mathlib.Core.List.{List, [], _∷_, _++_, map}
 use Rattle.figuring.specs.Years.{firstYear}
 use Rattle.book.specs.Sizes.{makers, sets, years}
 use Rattle.book.specs.Ledger.{Key, key, cell}
-use Rattle.book.specs.Life.{live, openShort}
+use Rattle.figuring.specs.Life.{live, openShort}
 use Rattle.book.specs.Accounts.{Accounts, Entry, accountsOf}
 use Rattle.book.specs.Accounts.{bought, sold, applied, retired, covered}
 use Rattle.book.specs.declared.kinds.Call.{Call}

@@ -2,12 +2,11 @@ use borrow.Author.Needs.{needs}
 use native.Mathlib.Omega.{arith}
 use mathlib.Core.Path.{_≡_, sym}
 use mathlib.Core.Bool.{true}
-use Rattle.figuring.proofs.BoolLaws.{denied, granted}
-use Rattle.book.specs.Life.{closedYear, expired}
-use Rattle.book.proofs.BelowLaws.{first-fails}
-use Rattle.book.proofs.LifeLaws.{closed-is, old}
-use Rattle.book.proofs.life.is_expired.Statement.{statement}
-use Rattle.book.proofs.life.is_expired.Tie as tie
+use Rattle.figuring.proofs.BoolLaws.{denied, granted, first-fails}
+use Rattle.figuring.specs.Life.{closedYear, live}
+use Rattle.figuring.proofs.LifeLaws.{closed-is, young}
+use Rattle.figuring.proofs.life.is_live.Statement.{statement}
+use Rattle.figuring.proofs.life.is_live.Tie as tie
 
 is-closed-year-requires : tie.Need-is-closed-year-requires
 is-closed-year-requires c κs = search needs
@@ -16,15 +15,15 @@ closed : (c : tie.Else1) → closedYear (c .before .before .args .«open-year»)
 closed c = granted (c .before .is-closed-year .ensures) (c .if1 .left)
 
 returns : tie.Need-returns
-unfolding expired
+unfolding live
 returns c = sym (first-fails _ (denied (c .before .is-closed-year .ensures) (c .if1 .taken)))
 
 sub-result : tie.Need-sub-result
 sub-result c = omega (arith, closed-is _ _ (closed c))
 
 returns-2 : tie.Need-returns-2
-unfolding expired
-returns-2 c = old _ _ 6 (closed c)
+unfolding live
+returns-2 c = young _ _ 6 (closed c)
 
-pub is-expired-spec : {M : Type 1} → statement M
-is-expired-spec = tie.close (tie.spec is-closed-year-requires returns sub-result returns-2)
+pub is-live-spec : {M : Type 1} → statement M
+is-live-spec = tie.close (tie.spec is-closed-year-requires returns sub-result returns-2)

@@ -1,11 +1,7 @@
 // Live, expired, open, overdue: for any two years, with no sum that could wrap.
 ghost use mathlib.Core.Path.{_≡_};
-ghost use Prim.Native.Nat.{_<_};
-ghost use Rattle.book.specs.Sizes.{makers, sets};
-ghost use Rattle.book.specs.Life.{live, expired, openShort, overdue, closedYear, hasShortage};
-use crate::ledger::SETS;
-use crate::ledger::YEARS;
-use figuring::years::FIRST_YEAR;
+ghost use Rattle.figuring.specs.Life.{live, expired, openShort, overdue, closedYear};
+use crate::years::FIRST_YEAR;
 
 // How many years after its own a lot is live.
 const LOT_LIFE: u64 = 6;
@@ -56,17 +52,4 @@ fn is_closed_year(open_year: u64, year: u64) -> bool
         return false;
     }
     year < open_year
-}
-
-// Whether a cell has a shortage above 0 in any year.
-pub(crate) fn has_shortage(shortages: &[u64; 768], maker: u64, set: u64) -> bool
-    requires { ⌜ (maker < makers) × (set < sets) ⌝ }
-    ensures { λ r. ⌜ r ≡ hasShortage (now (shortages .entry)) maker set ⌝ }
-{
-    for i in 0..YEARS {
-        if shortages[((maker * SETS + set) * YEARS + i) as usize] > 0 {
-            return true;
-        }
-    }
-    false
 }

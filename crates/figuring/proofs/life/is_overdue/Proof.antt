@@ -2,12 +2,11 @@ use borrow.Author.Needs.{needs}
 use native.Mathlib.Omega.{arith}
 use mathlib.Core.Path.{_≡_, sym}
 use mathlib.Core.Bool.{true}
-use Rattle.figuring.proofs.BoolLaws.{denied, granted}
-use Rattle.book.specs.Life.{closedYear, overdue}
-use Rattle.book.proofs.BelowLaws.{first-fails}
-use Rattle.book.proofs.LifeLaws.{closed-is, old}
-use Rattle.book.proofs.life.is_overdue.Statement.{statement}
-use Rattle.book.proofs.life.is_overdue.Tie as tie
+use Rattle.figuring.proofs.BoolLaws.{denied, granted, first-fails}
+use Rattle.figuring.specs.Life.{closedYear, overdue}
+use Rattle.figuring.proofs.LifeLaws.{closed-is, old}
+use Rattle.figuring.proofs.life.is_overdue.Statement.{statement}
+use Rattle.figuring.proofs.life.is_overdue.Tie as tie
 
 is-closed-year-requires : tie.Need-is-closed-year-requires
 is-closed-year-requires c κs = search needs

@@ -1,7 +1,7 @@
 use borrow.Author.Tests.{lt-leb, le-leb}
-use Rattle.book.specs.Life.{closedYear}
-use Rattle.book.proofs.life.is_closed_year.Statement.{statement}
-use Rattle.book.proofs.life.is_closed_year.Tie as tie
+use Rattle.figuring.specs.Life.{closedYear}
+use Rattle.figuring.proofs.life.is_closed_year.Statement.{statement}
+use Rattle.figuring.proofs.life.is_closed_year.Tie as tie
 
 returns : tie.Need-returns
 unfolding closedYear

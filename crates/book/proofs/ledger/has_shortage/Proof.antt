@@ -7,11 +7,11 @@ use mathlib.Core.Path.{_≡_, refl, sym, _∙_, ap}
 use lib.Dec.{ltb}
 use Rattle.book.specs.Sizes.{years}
 use Rattle.book.specs.Below.{anyBelow}
-use Rattle.book.specs.Life.{hasShortage, shortIn}
+use Rattle.book.specs.Ledger.{hasShortage, shortIn}
 use Rattle.book.proofs.BelowLaws.{any-more, any-hits, any-done}
 use Rattle.book.proofs.PlaceLaws.{at-year}
-use Rattle.book.proofs.life.has_shortage.Statement.{statement}
-use Rattle.book.proofs.life.has_shortage.Tie as tie
+use Rattle.book.proofs.ledger.has_shortage.Statement.{statement}
+use Rattle.book.proofs.ledger.has_shortage.Tie as tie
 
 abbrev Inv-loop : tie.InvT-loop
 Inv-loop shortages maker set i₀ i = (i ≤ years) × (anyBelow i (shortIn shortages maker set) ≡ false)

@@ -1,18 +1,14 @@
 -- Laws of lots and shortages in time: the code's difference against the rule's sum, and what a test that holds says.
 use Prim.Native.Nat.{ℕ, _+_, _-_, _≤_, _<_}
 use mathlib.Core.Bool.{true, false, not, _&&_}
-use mathlib.Core.List.{List}
 use mathlib.Core.Path.{_≡_, sym, _∙_}
 use native.Mathlib.Omega.{arith}
 use native.Mathlib.Decide.{decLe}
 use borrow.Author.Tests.{ltb-true, leb-true, not-false, lt-ltb, le-ltb, le-leb, lt-leb}
 use lib.Dec.{ltb, leb}
 use Rattle.figuring.specs.Years.{firstYear}
-use Rattle.figuring.proofs.BoolLaws.{both}
-use Rattle.book.specs.Ledger.{key, In, figureAt}
-use Rattle.book.specs.Life.{closedYear, live, openShort}
-use Rattle.book.specs.Listing.{isCellYear}
-use Rattle.book.proofs.BelowLaws.{and-intro, second-fails}
+use Rattle.figuring.proofs.BoolLaws.{both, and-intro}
+use Rattle.figuring.specs.Life.{closedYear, live, openShort}
 
 -- ── closed years, and those at most `life` years back
 pub record Closed (Y y : ℕ) : Type 0 where
@@ -81,27 +77,3 @@ pub is-old : (life Y y : ℕ) → Old life Y y → (closedYear Y y && ltb (y + l
 unfolding closedYear
 is-old life Y y h =
     and-intro (and-intro (le-leb firstYear y (h .from)) (lt-ltb y Y (omega (arith, h)))) (lt-ltb (y + life) Y (h .old))
-
--- ── what a listing shows: a figure n, read at a cell and year of the book, that is not 0
-pub cell-year : (m s y : ℕ) → isCellYear m s y ≡ true → In (key m s y)
-unfolding isCellYear
-cell-year m s y e =
-    let p = both _ _ e in
-    let q = both _ _ (p .1) in
-    let r = both _ _ (q .1) in
-    record {
-      maker = ltb-true _ _ (p .0);
-      set = ltb-true _ _ (q .0);
-      from = leb-true _ _ (r .0);
-      upto = leb-true _ _ (r .1);
-    }
-
-pub hidden :
-    (l : List ℕ) (m s y : ℕ) {n : ℕ} → n ≡ figureAt l (key m s y) → n ≡ 0
-    → (isCellYear m s y && ltb 0 (figureAt l (key m s y))) ≡ false
-hidden l m s y e z = second-fails (isCellYear m s y) (le-ltb 0 (figureAt l (key m s y)) (omega arith))
-
-pub shown :
-    (l : List ℕ) (m s y : ℕ) {n : ℕ} → isCellYear m s y ≡ true → n ≡ figureAt l (key m s y) → (n ≡ 0 → ⊥)
-    → (isCellYear m s y && ltb 0 (figureAt l (key m s y))) ≡ true
-shown l m s y i e z = and-intro i (lt-ltb 0 (figureAt l (key m s y)) (omega (arith, z)))

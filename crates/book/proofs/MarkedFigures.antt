@@ -3,7 +3,7 @@ use mathlib.Core.Bool.{true}
 use mathlib.Core.Path.{_≡_, refl, _∙_, ap}
 use native.Mathlib.Omega.{arith}
 use lib.IntN.{pos}
-use Rattle.figuring.specs.Standards.{standardFor, tractor, column, isAbsent}
+use Rattle.figuring.specs.Standards.{standardFor, tractor, printedFor, isAbsent}
 use Rattle.figuring.specs.Parts.{withinLimits, between}
 use Rattle.figuring.specs.Netting.{earnedOf}
 use Rattle.figuring.proofs.MarkedLaws as Figuring
@@ -85,7 +85,7 @@ close-refused =
 
 -- ---- all of them
 pub marked-figures : MarkedFigures
-unfolding live expired openShort overdue closedYear posted table headRows ownRows fileRows done stored freshBook isAccepted refusalIn marked standardFor tractor column isAbsent withinLimits between
+unfolding live expired openShort overdue closedYear posted table headRows ownRows fileRows done stored freshBook isAccepted refusalIn marked standardFor tractor printedFor isAbsent withinLimits between
 marked-figures =
     record {
       figuring = Figuring.marked-figures;

@@ -1,5 +1,5 @@
--- Document 01, "Accounts": fed, in list order, the calls' arguments other than the book and, of each answer, only whether
--- it was a refusal. The types show it: an entry is a call and a Bool, and nothing here takes a book.
+-- Document 01, "Accounts": fed, in list order, the calls' arguments other than the book and, of each answer, only
+-- whether it was a refusal. The types show it: an entry is a call and a Bool, and nothing here takes a book.
 use Prim.Native.Nat.{ℕ, _+_}
 use mathlib.Core.Bool.{Bool, true, false, _&&_}
 use mathlib.Core.List.{List, [], _∷_}
@@ -31,9 +31,9 @@ columnNumber applied = 2
 columnNumber retired = 3
 columnNumber covered = 4
 
--- "For each maker, set and year 2014 to 2037 there are a sum in part units and, in Mg, earned, shortfall, bought, sold,
--- applied, retired and covered. All are exact whole numbers without bound and start at zero." Kept here for any key: Demand3
--- speaks of those of the book.
+-- "For each maker, set and year 2014 to 2037 there are a sum in part units and, in Mg, earned, shortfall, bought,
+-- sold, applied, retired and covered. All are exact whole numbers without bound and start at zero." Kept here for any
+-- key: Demand3 speaks of those of the book.
 pub record Accounts : Type 0 where
   pub sum : Key → ℤ
   pub earned : Key → ℕ

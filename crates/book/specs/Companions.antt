@@ -43,9 +43,11 @@ acceptedOnly b (c ∷ cs) = keepIf (isAccepted (posted b c .answer)) c (accepted
 abbrev pub StrikeOut : Book → List Call → Type 0
 StrikeOut b cs = bookAfter b (acceptedOnly b cs) ≡ bookAfter b cs
 
--- A lot that is expired, whatever calls follow: "the figure stays and nothing moves it". An overdue shortage "stays likewise".
+-- A lot that is expired, whatever calls follow: "the figure stays and nothing moves it". An overdue shortage "stays
+-- likewise".
 pub record Stays (b : Book) (cs : List Call) (k : Key) : Type 0 where
   pub lot : expired (b .«open_year») (k .year) ≡ true → figureAt (bookAfter b cs .lots) k ≡ figureAt (b .lots) k
   pub still-expired : expired (b .«open_year») (k .year) ≡ true → expired (bookAfter b cs .«open_year») (k .year) ≡ true
-  pub shortage : overdue (b .«open_year») (k .year) ≡ true → figureAt (bookAfter b cs .shortages) k ≡ figureAt (b .shortages) k
+  pub shortage :
+      overdue (b .«open_year») (k .year) ≡ true → figureAt (bookAfter b cs .shortages) k ≡ figureAt (b .shortages) k
   pub still-overdue : overdue (b .«open_year») (k .year) ≡ true → overdue (bookAfter b cs .«open_year») (k .year) ≡ true

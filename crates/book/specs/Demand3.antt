@@ -1,6 +1,6 @@
--- Demand 3: ONE theorem about lists of calls of any length, begun on a fresh book. `Demand3` is its statement; the proof is
--- `demand3` of proofs/Reconciliation.antt. The history of a list pairs each call with whether it was accepted; the accounts
--- see the history alone, so nothing of a book reaches them.
+-- Demand 3: ONE theorem about lists of calls of any length, begun on a fresh book. `Demand3` is its statement; the
+-- proof is `demand3` of proofs/Reconciliation.antt. The history of a list pairs each call with whether it was
+-- accepted; the accounts see the history alone, so nothing of a book reaches them.
 use Prim.Native.Nat.{_+_, _≤_}
 use mathlib.Core.Bool.{Bool, true, false}
 use mathlib.Core.List.{List, [], _∷_, _++_}
@@ -36,14 +36,14 @@ unfoldable pub bookAfter : Book → List Call → Book
 bookAfter b [] = b
 bookAfter b (c ∷ cs) = bookAfter (posted b c .book) cs
 
--- a lot is earned + bought - sold - applied - retired, and a shortage is shortfall - covered: stated as sums, so that no
--- difference below zero can hide
+-- a lot is earned + bought - sold - applied - retired, and a shortage is shortfall - covered: stated as sums, so that
+-- no difference below zero can hide
 pub record Reconciled (b : Book) (a : Accounts) (k : Key) : Type 0 where
   pub lot : figureAt (b .lots) k + a .mg sold k + a .mg applied k + a .mg retired k ≡ a .earned k + a .mg bought k
   pub shortage : figureAt (b .shortages) k + a .mg covered k ≡ a .shortfall k
 
--- "the shortage that these accounts give its maker, set and year just before it is at least its Mg; its year is at most its
--- vintage + 5, and its vintage at most its year + 3"
+-- "the shortage that these accounts give its maker, set and year just before it is at least its Mg; its year is at
+-- most its vintage + 5, and its vintage at most its year + 3"
 pub record Covers (a : Accounts) (p : Application) : Type 0 where
   pub enough : a .mg covered (coveredShortage p) + p .mg ≤ a .shortfall (coveredShortage p)
   pub notTooLate : p .year ≤ p .vintage + 5

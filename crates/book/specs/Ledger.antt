@@ -1,5 +1,5 @@
--- Document 01, "The book": what stands where. Lots and shortages are read by `figureAt` and moved by `lower` and `raise`, at a
--- key; a close writes them by `netted`, and a filing its part by `stored` (Postings).
+-- Document 01, "The book": what stands where. Lots and shortages are read by `figureAt` and moved by `lower` and
+-- `raise`, at a key; a close writes them by `netted`, and a filing its part by `stored` (Postings).
 use Prim.Native.Nat.{ℕ, _+_, _-_, _*_, _/_, _%_, _^_, _≤_, _<_}
 use mathlib.Core.Bool.{Bool}
 use mathlib.Core.List.{List}
@@ -37,9 +37,10 @@ pub record In (k : Key) : Type 0 where
 abbrev pub cell : ℕ → ℕ → ℕ
 cell m s = m * sets + s
 
--- Where a key's lot and shortage stand, of a key of the book (`In`). A year outside 2014 to 2037 has no place of its own: `place`
--- gives it that of 2014, or of another cell. No call reads a figure there: the rows that do (14, 15, 16) come after those that
--- refuse such a year (10, 14), and a maker or a set that the book has not (3, 4).
+-- Where a key's lot and shortage stand, of a key of the book (`In`). A year outside 2014 to 2037 has no place of its
+-- own: `place` gives it that of 2014, or of another cell. No call reads a figure there: the rows that do (14, 15, 16)
+-- come after those that refuse an open year out of range (2), a maker or a set that the book has not (3, 4) and such
+-- a year (10, 14). A listing asks `isCellYear` first.
 abbrev pub place : Key → ℕ
 place k = (k .maker * sets + k .set) * years + (k .year - firstYear)
 

@@ -1,4 +1,5 @@
--- What a listing shows of a cell and year: a lot above 0 that is live or expired, a shortage above 0 that is open or overdue.
+-- What a listing shows of a cell and year: a lot above 0 that is live or expired, a shortage above 0 that is open or
+-- overdue.
 use Prim.Native.Nat.{ℕ}
 use mathlib.Core.Bool.{Bool, true, false, _&&_}
 use mathlib.Core.List.{List}

@@ -56,16 +56,16 @@ refusalIn (Filed p n) = 0
 refusalIn (Closed n) = 0
 refusalIn (Left m) = 0
 
--- the values of an accepted call, in the paper's order: a filing's part and count, a close's cells that closed short, what is
--- left in the paying lot
+-- the values of an accepted call, in the paper's order: a filing's part and count, a close's cells that closed short,
+-- what is left in the paying lot
 unfoldable pub valuesIn : Answer → List ℤ
 valuesIn (Refused r) = []
 valuesIn (Filed p n) = p .0 ∷ pos n ∷ []
 valuesIn (Closed n) = pos n ∷ []
 valuesIn (Left m) = pos (m .0) ∷ []
 
--- the result at a place of an answer, from 0 on: its value there, and zero where it has none. So of a refusal, which has no
--- values, each is "zero for the other results"
+-- the result at a place of an answer, from 0 on: its value there, and zero where it has none. So of a refusal, which
+-- has no values, each is "zero for the other results"
 abbrev pub resultIn : Answer → ℕ → ℤ
 resultIn a i = getD (valuesIn a) i (pos 0)
 

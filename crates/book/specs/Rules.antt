@@ -1,5 +1,5 @@
--- What a call gives, for any book and any call: the head of the refusals, then the call's own, each in the order of document
--- 01's "Refusal list", then the outcome. `CheckingOrder` has the tables by the paper's numbers.
+-- What a call gives, for any book and any call: the head of the refusals, then the call's own, each in the order of
+-- document 01's "Refusal list", then the outcome. `CheckingOrder` has the tables by the paper's numbers.
 -- "A call skips the entries that don't concern it." Entries 3 (in a trade), 5 and 14 are two tests, so two rows.
 use Prim.Native.Nat.{ℕ}
 use mathlib.Core.Bool.{not}

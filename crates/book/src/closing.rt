@@ -47,10 +47,11 @@ pub fn close(book: Book, year: u64) -> Posted
             Verdict::Refuse(why) => Answer::Refused(why),
             Verdict::Accepted => {
                 let nets = net_cells(after);
+                let next = after.open_year + 1;
                 let lots = nets.lots;
                 let shortages = nets.shortages;
                 after = Book {
-                    open_year: after.open_year + 1,
+                    open_year: next,
                     marks: [0; 32],
                     parts: [0; 2048],
                     lots,
@@ -87,7 +88,9 @@ struct Nets {
 
 fn net_cells(book: Book) -> Nets
     requires { ⌜ (sound book ≡ true) × (book .«open_year» ≤ lastYear) ⌝ }
-    ensures { λ r. ⌜ (r .lots ≡ netted (book .«open_year» - firstYear) (earnedBy book) cells (book .lots)) × ((r .shortages ≡ netted (book .«open_year» - firstYear) (shortBy book) cells (book .shortages)) × (r .short ≡ countBelow cells (λ c. ltb 0 (shortBy book c)))) ⌝ }
+    ensures { λ r. ⌜ (r .lots ≡ netted (book .«open_year» - firstYear) (earnedBy book) cells (book .lots))
+        × ((r .shortages ≡ netted (book .«open_year» - firstYear) (shortBy book) cells (book .shortages))
+        × (r .short ≡ countBelow cells (λ c. ltb 0 (shortBy book c)))) ⌝ }
 {
     let i = book.open_year - FIRST_YEAR;
     let mut lots = book.lots;

@@ -49,8 +49,9 @@ pub fn file(book: Book, f: Filing) -> Posted
                     let figure = part.0;
                     after.marks[cell as usize] = mark;
                     after.parts[(cell * FAMILIES + family) as usize] = figure;
-                    // The count is the number of ones in the mark.
-                    Answer::Filed(part, u64::count_ones(mark) as u64)
+                    // The number of ones in the mark.
+                    let count = u64::count_ones(mark) as u64;
+                    Answer::Filed(part, count)
                 }
             },
         },
@@ -63,7 +64,8 @@ pub fn file(book: Book, f: Filing) -> Posted
 
 // A filing's part, from its standard; out of limits where document 01 says so.
 fn part_of(f: Filing) -> FamilyPart
-    ensures { λ r. ⌜ r ≡ familyPart (gramsOf (standardFor (f .set) (f .«vehicle_use») (f .year))) (f .fcl) (f .cf) (f .volume) (f .life) ⌝ }
+    ensures { λ r. ⌜ r ≡ familyPart (gramsOf (standardFor (f .set) (f .«vehicle_use») (f .year)))
+        (f .fcl) (f .cf) (f .volume) (f .life) ⌝ }
 {
     let standard = grams(standard_for(f.set, f.vehicle_use, f.year));
     family_part(standard, f.fcl, f.cf, f.volume, f.life)

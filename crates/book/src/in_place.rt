@@ -1,6 +1,6 @@
-// "The terminal owns one book and posts to it in place": thin functions that take the book by reference, call the proved
-// by-value step and store the result back; `post_in` passes the book on to the call's own. A refusal leaves the book exactly
-// as it was.
+// "The terminal owns one book and posts to it in place": thin functions that take the book by reference, call the
+// proved by-value step and store the result back; `post_in` passes the book on to the call's own. A refusal leaves
+// the book exactly as it was.
 ghost use mathlib.Core.Path.{_≡_};
 ghost use Rattle.book.specs.Rules.{posted};
 ghost use Rattle.book.specs.declared.kinds.Call.{Call};
@@ -18,7 +18,8 @@ use crate::retiring::retire;
 use crate::trading::trade;
 
 pub fn file_in(book: &mut Book, f: Filing) -> Answer
-    ensures { λ a. ⌜ (a ≡ posted (now (book .entry)) (Call.File f) .answer) × (now (book .exit) ≡ posted (now (book .entry)) (Call.File f) .book) ⌝ }
+    ensures { λ a. ⌜ (a ≡ posted (now (book .entry)) (Call.File f) .answer)
+        × (now (book .exit) ≡ posted (now (book .entry)) (Call.File f) .book) ⌝ }
 {
     let done = file(*book, f);
     *book = done.book;
@@ -26,7 +27,8 @@ pub fn file_in(book: &mut Book, f: Filing) -> Answer
 }
 
 pub fn close_in(book: &mut Book, year: u64) -> Answer
-    ensures { λ a. ⌜ (a ≡ posted (now (book .entry)) (Call.Close year) .answer) × (now (book .exit) ≡ posted (now (book .entry)) (Call.Close year) .book) ⌝ }
+    ensures { λ a. ⌜ (a ≡ posted (now (book .entry)) (Call.Close year) .answer)
+        × (now (book .exit) ≡ posted (now (book .entry)) (Call.Close year) .book) ⌝ }
 {
     let done = close(*book, year);
     *book = done.book;
@@ -34,7 +36,8 @@ pub fn close_in(book: &mut Book, year: u64) -> Answer
 }
 
 pub fn trade_in(book: &mut Book, t: Trade) -> Answer
-    ensures { λ a. ⌜ (a ≡ posted (now (book .entry)) (Call.Trade t) .answer) × (now (book .exit) ≡ posted (now (book .entry)) (Call.Trade t) .book) ⌝ }
+    ensures { λ a. ⌜ (a ≡ posted (now (book .entry)) (Call.Trade t) .answer)
+        × (now (book .exit) ≡ posted (now (book .entry)) (Call.Trade t) .book) ⌝ }
 {
     let done = trade(*book, t);
     *book = done.book;
@@ -42,7 +45,8 @@ pub fn trade_in(book: &mut Book, t: Trade) -> Answer
 }
 
 pub fn apply_in(book: &mut Book, p: Application) -> Answer
-    ensures { λ a. ⌜ (a ≡ posted (now (book .entry)) (Call.Apply p) .answer) × (now (book .exit) ≡ posted (now (book .entry)) (Call.Apply p) .book) ⌝ }
+    ensures { λ a. ⌜ (a ≡ posted (now (book .entry)) (Call.Apply p) .answer)
+        × (now (book .exit) ≡ posted (now (book .entry)) (Call.Apply p) .book) ⌝ }
 {
     let done = apply(*book, p);
     *book = done.book;
@@ -50,7 +54,8 @@ pub fn apply_in(book: &mut Book, p: Application) -> Answer
 }
 
 pub fn retire_in(book: &mut Book, p: Retirement) -> Answer
-    ensures { λ a. ⌜ (a ≡ posted (now (book .entry)) (Call.Retire p) .answer) × (now (book .exit) ≡ posted (now (book .entry)) (Call.Retire p) .book) ⌝ }
+    ensures { λ a. ⌜ (a ≡ posted (now (book .entry)) (Call.Retire p) .answer)
+        × (now (book .exit) ≡ posted (now (book .entry)) (Call.Retire p) .book) ⌝ }
 {
     let done = retire(*book, p);
     *book = done.book;
@@ -59,7 +64,8 @@ pub fn retire_in(book: &mut Book, p: Retirement) -> Answer
 
 // Any call, posted in place.
 pub fn post_in(book: &mut Book, call: Call) -> Answer
-    ensures { λ a. ⌜ (a ≡ posted (now (book .entry)) call .answer) × (now (book .exit) ≡ posted (now (book .entry)) call .book) ⌝ }
+    ensures { λ a. ⌜ (a ≡ posted (now (book .entry)) call .answer)
+        × (now (book .exit) ≡ posted (now (book .entry)) call .book) ⌝ }
 {
     match call {
         Call::File(f) => file_in(book, f),

@@ -1,6 +1,6 @@
-// The book of document 01, as a struct by value. Its arrays hold plain numbers: parts in part units, lots and shortages in
-// Mg. Part and Mg are the types of every call's results.
-// A copy of it is 29 KB. So a step makes one copy, works on that and has one exit, and its verdict is lent the arrays.
+// The book of document 01, as a struct by value. Its arrays hold plain numbers: parts in part units, lots and
+// shortages in Mg. Part and Mg are the types of every call's results. A copy of it is 29 KB. So a step makes one
+// copy, works on that and has one exit, and its verdict is lent the arrays.
 ghost use mathlib.Core.Path.{_≡_};
 ghost use Prim.Native.Nat.{_+_, _-_, _*_, _^_, _<_, _≤_};
 ghost use Rattle.book.specs.Sizes.{makers, sets, families, places};

@@ -1,5 +1,5 @@
-// What a listing shows of a maker, a set and a year, for any three numbers and any book. The array is lent: a listing asks
-// for each of 768 lots and 768 shortages, and a book by value would be a copy of 29 KB at each.
+// What a listing shows of a maker, a set and a year, for any three numbers and any book. The array is lent: a listing
+// asks for each of 768 lots and 768 shortages, and a book by value would be a copy of 29 KB at each.
 ghost use mathlib.Core.Path.{_≡_};
 ghost use Rattle.book.specs.Listing.{lotEntry, shortageEntry, isCellYear};
 use crate::ledger::MAKERS;

@@ -41,7 +41,8 @@ pub(crate) fn arrays_sound<'a>(
     lots: &'a [u64; 768],
     shortages: &'a [u64; 768],
 ) -> bool
-    ensures { λ r. ⌜ r ≡ sound (bookOf «open_year» (now (marks .entry)) (now (parts .entry)) (now (lots .entry)) (now (shortages .entry))) ⌝ }
+    ensures { λ r. ⌜ r ≡ sound
+        (bookOf «open_year» (now (marks .entry)) (now (parts .entry)) (now (lots .entry)) (now (shortages .entry))) ⌝ }
 {
     if !year_in_range(open_year) {
         return false;
@@ -69,7 +70,8 @@ fn cells_sound<'a>(
     lots: &'a [u64; 768],
     shortages: &'a [u64; 768],
 ) -> bool
-    ensures { λ r. ⌜ r ≡ cellsSound (bookOf «open_year» (now (marks .entry)) (now (parts .entry)) (now (lots .entry)) (now (shortages .entry))) ⌝ }
+    ensures { λ r. ⌜ r ≡ cellsSound
+        (bookOf «open_year» (now (marks .entry)) (now (parts .entry)) (now (lots .entry)) (now (shortages .entry))) ⌝ }
 {
     let mut good = true;
     'walk: for maker in 0..MAKERS {

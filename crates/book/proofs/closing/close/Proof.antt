@@ -69,8 +69,8 @@ enum-told-2 c = search needs
 net-cells-requires : tie.Need-net-cells-requires
 net-cells-requires c κs = (facts c .sound, facts c .upto)
 
-add-t22 : tie.Need-add-t22
-add-t22 c = omega (arith, facts (c .before .before .before))
+add-next : tie.Need-add-next
+add-next c = omega (arith, facts (c .before))
 
 returns : tie.Need-returns
 returns c = sym (head-refuses _ _ (sym (headed (c .before .before .before)) ∙ c .before .head .given .1))
@@ -99,7 +99,7 @@ close-spec =
     enum-known-why
     enum-told-2
     net-cells-requires
-    add-t22
+    add-next
     returns
     returns-2
     returns-3)

@@ -127,8 +127,8 @@ element-set-from-figure : tie.Need-element-set-from-figure
 element-set-from-figure c = omega (arith, facts (storing c))
 
 -- A count of any 64-bit number fits: so a count of another number than the mark would pass here and fail at `returns-4`.
-cast-t26 : tie.Need-cast-t26
-cast-t26 c =
+cast-count : tie.Need-cast-count
+cast-count c =
     omega (
       arith,
       ones-le 64 (c .before .with-bit .result) (c .before .with-bit .ok),
@@ -184,7 +184,7 @@ file-spec =
     add-figure
     mul-figure-2
     element-set-from-figure
-    cast-t26
+    cast-count
     returns
     returns-2
     returns-3

@@ -9,7 +9,6 @@ use Rattle.figuring.specs.Netting.{earnedOf}
 use Rattle.figuring.proofs.MarkedLaws as Figuring
 use Rattle.book.specs.Below.{sumBelowℤ}
 use Rattle.book.specs.Ledger.{key, figureAt, marked, cellSum}
-use Rattle.figuring.specs.Life.{live, expired, openShort, overdue, closedYear}
 use Rattle.book.specs.Soundness.{sound}
 use Rattle.book.specs.Refusals.{refusalIn}
 use Rattle.book.specs.Postings.{freshBook, stored, closeDone, earnedBy}
@@ -85,13 +84,11 @@ close-refused =
 
 -- ---- all of them
 pub marked-figures : MarkedFigures
-unfolding live expired openShort overdue closedYear posted table headRows ownRows fileRows done stored freshBook isAccepted refusalIn marked standardFor tractor printedFor isAbsent withinLimits between
+unfolding posted table headRows ownRows fileRows done stored freshBook isAccepted refusalIn marked standardFor tractor printedFor isAbsent withinLimits between
 marked-figures =
     record {
       figuring = Figuring.marked-figures;
       P7 = (two-taken, two-lot);
-      P8 = (refl, refl);
-      P9 = (refl, refl);
       P10 = (rw fresh-sound, rw fresh-sound, rw fresh-sound);
       P11 = (rw fresh-sound, rw fresh-sound);
       P12 = (close-taken, close-refused);

@@ -68,39 +68,39 @@ stops (x ∷ xs) ys r e = go (x .test) e (stops xs ys r)
 
 -- ---- the head, and then the call's own rows
 module _ (b : Book) where
-  pub head-sound : firstRefusal (headRows b) ≡ Accepted → sound b ≡ true
+  pub head-sound : firstRefusal (headRows (sound b)) ≡ Accepted → sound b ≡ true
   unfolding headRows
-  head-sound e = not-false (sound b) (cleared (headRows b) e .0)
+  head-sound e = not-false (sound b) (cleared (headRows (sound b)) e .0)
 
-  pub sound-head : sound b ≡ true → firstRefusal (headRows b) ≡ Accepted
+  pub sound-head : sound b ≡ true → firstRefusal (headRows (sound b)) ≡ Accepted
   unfolding headRows
   sound-head s = rw s
 
 module _ (b : Book) (c : Call) where
   -- a head that refuses decides
-  pub head-refuses : {r : Refusal} → firstRefusal (headRows b) ≡ Refuse r → posted b c ≡ refusedWith b r
+  pub head-refuses : {r : Refusal} → firstRefusal (headRows (sound b)) ≡ Refuse r → posted b c ≡ refusedWith b r
   unfolding posted table
-  head-refuses e = ap (λ (v : Verdict). outcome v b (done b c)) (stops (headRows b) (ownRows b c) _ e)
+  head-refuses e = ap (λ (v : Verdict). outcome v b (done b c)) (stops (headRows (sound b)) (ownRows b c) _ e)
 
   -- one that accepts has found the book sound, and leaves the call to its own rows
   pub own-decide : {v : Verdict} → sound b ≡ true → firstRefusal (ownRows b c) ≡ v → posted b c ≡ outcome v b (done b c)
   unfolding posted table
   own-decide s e =
-      ap (λ (v : Verdict). outcome v b (done b c)) (passes (headRows b) (ownRows b c) (sound-head b s) ∙ e)
+      ap (λ (v : Verdict). outcome v b (done b c)) (passes (headRows (sound b)) (ownRows b c) (sound-head b s) ∙ e)
 
   -- what holds of the refusals of either, and of what an accepted call gives, holds of what a call gives
   pub by-rows :
       (P : Posted → Type 0)
-      → ((r : Refusal) → firstRefusal (headRows b) ≡ Refuse r → P (refusedWith b r))
+      → ((r : Refusal) → firstRefusal (headRows (sound b)) ≡ Refuse r → P (refusedWith b r))
       → ((r : Refusal) → firstRefusal (ownRows b c) ≡ Refuse r → P (refusedWith b r))
       → (sound b ≡ true → firstRefusal (ownRows b c) ≡ Accepted → P (done b c)) → P (posted b c)
-  by-rows P onHead onOwn onDone = head (firstRefusal (headRows b)) refl
+  by-rows P onHead onOwn onDone = head (firstRefusal (headRows (sound b))) refl
     where
       own : (v : Verdict) → sound b ≡ true → firstRefusal (ownRows b c) ≡ v → P (posted b c)
       own Accepted s e = subst P (sym (own-decide s e)) (onDone s e)
       own (Refuse r) s e = subst P (sym (own-decide s e)) (onOwn r e)
 
-      head : (v : Verdict) → firstRefusal (headRows b) ≡ v → P (posted b c)
+      head : (v : Verdict) → firstRefusal (headRows (sound b)) ≡ v → P (posted b c)
       head Accepted e = own (firstRefusal (ownRows b c)) (head-sound b e) refl
       head (Refuse r) e = subst P (sym (head-refuses e)) (onHead r e)
 

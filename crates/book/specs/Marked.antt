@@ -4,7 +4,6 @@ use mathlib.Core.Path.{_≡_}
 use mathlib.Core.Bool.{true}
 use lib.IntN.{pos}
 use Rattle.figuring.specs.Marked.{FiguringMarked}
-use Rattle.figuring.specs.Life.{live, expired, openShort, overdue}
 use Rattle.book.specs.Refusals.{refusalIn}
 use Rattle.book.specs.Ledger.{key, figureAt}
 use Rattle.book.specs.Postings.{emptyIn, freshBook, stored}
@@ -40,16 +39,12 @@ unfoldable pub twoParts : Book
 twoParts = stored onePart 0 1 (pos 4000000) .book
 
 pub record MarkedFigures : Type 0 where
-  -- P1 to P7, and of P10 the limits
+  -- P1 to P9, and of P10 the limits
   pub figuring : FiguringMarked
   -- P7 once more, of a close: two parts of 4,000,000 in a cell earn 1 Mg
   pub P7 :
       (isAccepted (posted twoParts (Call.Close 2014) .answer) ≡ true)
       × (figureAt (posted twoParts (Call.Close 2014) .book .lots) (key 0 0 2014) ≡ 1)
-  -- P8 vintage 2014 live in open year 2020, expired in 2021
-  pub P8 : (live 2020 2014 ≡ true) × (expired 2021 2014 ≡ true)
-  -- P9 shortage 2014 open in 2018, overdue in 2019
-  pub P9 : (openShort 2018 2014 ≡ true) × (overdue 2019 2014 ≡ true)
   -- P10 FCL 1,200 taken; 0 and 1,201 refused by 8
   pub P10 :
       (isAccepted (posted freshBook (filingWith 0 1200) .answer) ≡ true)

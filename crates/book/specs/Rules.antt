@@ -2,7 +2,7 @@
 -- document 01's "Refusal list", then the outcome. `CheckingOrder` has the tables by the paper's numbers.
 -- "A call skips the entries that don't concern it." Entries 3 (in a trade), 5 and 14 are two tests, so two rows.
 use Prim.Native.Nat.{ℕ}
-use mathlib.Core.Bool.{not}
+use mathlib.Core.Bool.{Bool, not}
 use mathlib.Core.List.{List, [], _∷_, _++_}
 use mathlib.Core.Path.{_≡_}
 use lib.Dec.{ltb, leb, eqb}
@@ -32,9 +32,9 @@ use Rattle.book.specs.declared.answers.Refusal.the-variants.{NoOpenShort
 use Rattle.book.specs.declared.answers.Verdict.{Verdict}
 use Rattle.book.specs.declared.answers.Verdict.the-variants.{Accepted, Refuse}
 
--- ---- the head: what comes before all that a call tests itself, of the whole book
-unfoldable pub headRows : Book → List Row
-headRows b = (not (sound b) ⇒ UnsoundBook) ∷ []
+-- ---- the head: what comes before all that a call tests itself. It reads of the book whether it is sound
+unfoldable pub headRows : Bool → List Row
+headRows isSound = (not isSound ⇒ UnsoundBook) ∷ []
 
 -- ---- each call's own rows, over what they read of the book and no more: Y is the open year
 
@@ -95,7 +95,7 @@ ownRows b (Call.Apply p) = applyRows (b .«open_year») (b .lots) (b .shortages)
 ownRows b (Call.Retire p) = retireRows (b .«open_year») (b .lots) (b .shortages) p
 
 unfoldable pub table : Book → Call → List Row
-table b c = headRows b ++ ownRows b c
+table b c = headRows (sound b) ++ ownRows b c
 
 -- ---- the outcome
 

@@ -16,6 +16,7 @@ use crate::ledger::MAKERS;
 use crate::ledger::SETS;
 use crate::ledger::figure_at;
 use crate::ledger::lower_figure;
+use crate::soundness::arrays_sound;
 use figuring::life::is_live;
 use figuring::life::is_open;
 use figuring::units::Mg;
@@ -24,13 +25,14 @@ pub fn apply(book: Book, p: Application) -> Posted
     ensures { λ r. ⌜ r ≡ posted book (Call.Apply p) ⌝ }
 {
     let mut after = book;
-    let head = head_verdict(
+    let sound = arrays_sound(
         after.open_year,
         &after.marks,
         &after.parts,
         &after.lots,
         &after.shortages,
     );
+    let head = head_verdict(sound);
     let answer = match head {
         Verdict::Refuse(why) => Answer::Refused(why),
         Verdict::Accepted => match apply_verdict(

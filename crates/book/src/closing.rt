@@ -24,6 +24,7 @@ use crate::ledger::Book;
 use crate::ledger::CELLS;
 use crate::ledger::FAMILIES;
 use crate::ledger::YEARS;
+use crate::soundness::arrays_sound;
 use figuring::netting::earned_mg;
 use figuring::netting::net_of;
 use figuring::netting::shortfall_mg;
@@ -34,13 +35,14 @@ pub fn close(book: Book, year: u64) -> Posted
     ensures { λ r. ⌜ r ≡ posted book (Call.Close year) ⌝ }
 {
     let mut after = book;
-    let head = head_verdict(
+    let sound = arrays_sound(
         after.open_year,
         &after.marks,
         &after.parts,
         &after.lots,
         &after.shortages,
     );
+    let head = head_verdict(sound);
     let answer = match head {
         Verdict::Refuse(why) => Answer::Refused(why),
         Verdict::Accepted => match close_verdict(after.open_year, year) {

@@ -18,6 +18,7 @@ use crate::ledger::MAKERS;
 use crate::ledger::SETS;
 use crate::ledger::is_marked;
 use crate::ledger::with_bit;
+use crate::soundness::arrays_sound;
 use figuring::parts::FamilyPart;
 use figuring::parts::family_part;
 use figuring::parts::within_limits;
@@ -29,13 +30,14 @@ pub fn file(book: Book, f: Filing) -> Posted
     ensures { λ r. ⌜ r ≡ posted book (Call.File f) ⌝ }
 {
     let mut after = book;
-    let head = head_verdict(
+    let sound = arrays_sound(
         after.open_year,
         &after.marks,
         &after.parts,
         &after.lots,
         &after.shortages,
     );
+    let head = head_verdict(sound);
     let answer = match head {
         Verdict::Refuse(why) => Answer::Refused(why),
         Verdict::Accepted => match file_verdict(after.open_year, &after.marks, f) {

@@ -1,24 +1,15 @@
-// The head of the refusals: what comes before all that a call tests itself, decided in one place for every call, over
-// the whole book.
+// The head of the refusals: what comes before all that a call tests itself, decided in one place for every call. Of the
+// book it asks whether it is sound; the walk that tells is the caller's, which lends it the arrays.
 ghost use mathlib.Core.Path.{_≡_};
-ghost use Rattle.book.specs.Ledger.{bookOf};
 ghost use Rattle.book.specs.Refusals.{firstRefusal};
 ghost use Rattle.book.specs.Rules.{headRows};
 use crate::answers::Refusal;
 use crate::answers::Verdict;
-use crate::soundness::arrays_sound;
 
-pub(crate) fn head_verdict<'a>(
-    open_year: u64,
-    marks: &'a [u64; 32],
-    parts: &'a [i64; 2048],
-    lots: &'a [u64; 768],
-    shortages: &'a [u64; 768],
-) -> Verdict
-    ensures { λ r. ⌜ r ≡ firstRefusal (headRows
-        (bookOf «open_year» (now (marks .entry)) (now (parts .entry)) (now (lots .entry)) (now (shortages .entry)))) ⌝ }
+pub(crate) fn head_verdict(sound: bool) -> Verdict
+    ensures { λ r. ⌜ r ≡ firstRefusal (headRows sound) ⌝ }
 {
-    if !arrays_sound(open_year, marks, parts, lots, shortages) {
+    if !sound {
         return Verdict::Refuse(Refusal::UnsoundBook);
     }
     Verdict::Accepted

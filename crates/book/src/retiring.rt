@@ -17,6 +17,7 @@ use crate::ledger::SETS;
 use crate::ledger::figure_at;
 use crate::ledger::has_shortage;
 use crate::ledger::lower_figure;
+use crate::soundness::arrays_sound;
 use figuring::life::is_live;
 use figuring::units::Mg;
 
@@ -24,13 +25,14 @@ pub fn retire(book: Book, p: Retirement) -> Posted
     ensures { λ r. ⌜ r ≡ posted book (Call.Retire p) ⌝ }
 {
     let mut after = book;
-    let head = head_verdict(
+    let sound = arrays_sound(
         after.open_year,
         &after.marks,
         &after.parts,
         &after.lots,
         &after.shortages,
     );
+    let head = head_verdict(sound);
     let answer = match head {
         Verdict::Refuse(why) => Answer::Refused(why),
         Verdict::Accepted => match retire_verdict(

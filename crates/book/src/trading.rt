@@ -18,6 +18,7 @@ use crate::ledger::figure_at;
 use crate::ledger::has_shortage;
 use crate::ledger::lower_figure;
 use crate::ledger::raise_figure;
+use crate::soundness::arrays_sound;
 use figuring::life::is_live;
 use figuring::units::Mg;
 
@@ -25,13 +26,14 @@ pub fn trade(book: Book, t: Trade) -> Posted
     ensures { λ r. ⌜ r ≡ posted book (Call.Trade t) ⌝ }
 {
     let mut after = book;
-    let head = head_verdict(
+    let sound = arrays_sound(
         after.open_year,
         &after.marks,
         &after.parts,
         &after.lots,
         &after.shortages,
     );
+    let head = head_verdict(sound);
     let answer = match head {
         Verdict::Refuse(why) => Answer::Refused(why),
         Verdict::Accepted => match trade_verdict(

@@ -20,10 +20,11 @@ use Rattle.book.proofs.filing.file.Tie as tie
 
 -- the head, over the book as it came
 abbrev entry : tie.After-head-verdict → tie.Start
-entry c = c .before .before .before .before .before .before
+entry c = c .before .before .before .before .before .before .before
 
-headed : (c : tie.After-head-verdict) → c .head-verdict .result ≡ firstRefusal (headRows (entry c .args .book))
-headed c = c .head-verdict .ensures
+headed :
+    (c : tie.After-head-verdict) → c .head-verdict .result ≡ firstRefusal (headRows (sound (entry c .args .book)))
+headed c = rw (← c .before .arrays-sound .ensures) (c .head-verdict .ensures)
 
 -- where the head has passed, the book is sound
 abbrev start : tie.After-enum-told → tie.Start
@@ -65,6 +66,9 @@ at-cell c = part-taken (c .before .before .before)
 
 abbrev storing : tie.After-struct-told → tie.After-enum-told2
 storing c = at-cell (c .before .before .before)
+
+arrays-sound-requires : tie.Need-arrays-sound-requires
+arrays-sound-requires c κs = search needs
 
 head-verdict-requires : tie.Need-head-verdict-requires
 head-verdict-requires c κs = search needs
@@ -164,6 +168,7 @@ pub file-spec : {M : Type 1} → statement M
 file-spec =
     tie.close
     (tie.spec
+    arrays-sound-requires
     head-verdict-requires
     enum-known-head
     enum-told

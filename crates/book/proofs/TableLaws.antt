@@ -82,11 +82,13 @@ module _ (b : Book) (c : Call) where
   unfolding posted table
   head-refuses e = ap (λ (v : Verdict). outcome v b (done b c)) (stops (headRows (sound b)) (ownRows b c) _ e)
 
-  -- one that accepts has found the book sound, and leaves the call to its own rows
-  pub own-decide : {v : Verdict} → sound b ≡ true → firstRefusal (ownRows b c) ≡ v → posted b c ≡ outcome v b (done b c)
+  -- one that accepts leaves the call to its own rows
+  pub own-decide :
+      {v : Verdict} → firstRefusal (headRows (sound b)) ≡ Accepted → firstRefusal (ownRows b c) ≡ v
+      → posted b c ≡ outcome v b (done b c)
   unfolding posted table
-  own-decide s e =
-      ap (λ (v : Verdict). outcome v b (done b c)) (passes (headRows (sound b)) (ownRows b c) (sound-head b s) ∙ e)
+  own-decide h e =
+      ap (λ (v : Verdict). outcome v b (done b c)) (passes (headRows (sound b)) (ownRows b c) h ∙ e)
 
   -- what holds of the refusals of either, and of what an accepted call gives, holds of what a call gives
   pub by-rows :
@@ -96,12 +98,12 @@ module _ (b : Book) (c : Call) where
       → (sound b ≡ true → firstRefusal (ownRows b c) ≡ Accepted → P (done b c)) → P (posted b c)
   by-rows P onHead onOwn onDone = head (firstRefusal (headRows (sound b))) refl
     where
-      own : (v : Verdict) → sound b ≡ true → firstRefusal (ownRows b c) ≡ v → P (posted b c)
-      own Accepted s e = subst P (sym (own-decide s e)) (onDone s e)
-      own (Refuse r) s e = subst P (sym (own-decide s e)) (onOwn r e)
+      own : (v : Verdict) → firstRefusal (headRows (sound b)) ≡ Accepted → firstRefusal (ownRows b c) ≡ v → P (posted b c)
+      own Accepted h e = subst P (sym (own-decide h e)) (onDone (head-sound b h) e)
+      own (Refuse r) h e = subst P (sym (own-decide h e)) (onOwn r e)
 
       head : (v : Verdict) → firstRefusal (headRows (sound b)) ≡ v → P (posted b c)
-      head Accepted e = own (firstRefusal (ownRows b c)) (head-sound b e) refl
+      head Accepted e = own (firstRefusal (ownRows b c)) e refl
       head (Refuse r) e = subst P (sym (head-refuses e)) (onHead r e)
 
   -- the same where the refusals need not be told apart

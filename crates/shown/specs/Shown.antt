@@ -90,7 +90,8 @@ pub record Among (x : Item) (xs : List Item) : Type 0 where
   pub after : List Item
   pub here : xs ≡ before ++ x ∷ after
 
--- a posting that brought Mg into a line: the close of its year, which earned or lacked some there; for a lot a trade
+-- a posting that brought Mg into a line: the close of its year, which earned or lacked some there; or, for a lot, a
+-- trade to it
 abbrev pub Brings : Accounts → Item → Call → Type 0
 Brings a (lot k n) (Call.Close y) = (y ≡ k .year) × (0 < a .earned k)
 Brings a (lot k n) (Call.Trade t) = (buyerLot t ≡ k) × (0 < t .mg)

@@ -26,8 +26,11 @@ headed c = rw (← c .before .arrays-sound .ensures) (c .head-verdict .ensures)
 abbrev start : tie.After-enum-told → tie.Start
 start c = entry (c .before .before)
 
+passed-head : (c : tie.After-enum-told) → firstRefusal (headRows (sound (start c .args .book))) ≡ Accepted
+passed-head c = sym (headed (c .before .before)) ∙ c .enum-told .given .1
+
 book-sound : (c : tie.After-enum-told) → sound (start c .args .book) ≡ true
-book-sound c = head-sound _ (sym (headed (c .before .before)) ∙ c .enum-told .given .1)
+book-sound c = head-sound _ (passed-head c)
 
 -- the call's own rows
 abbrev passed : tie.After-apply-verdict → tie.After-enum-told
@@ -83,7 +86,7 @@ returns-2 : tie.Need-returns-2
 unfolding ownRows
 returns-2 c =
     let w = c .before .before .before in
-    sym (own-decide _ (Call.Apply _) (book-sound (passed w)) (sym (said w) ∙ c .before .why .given .1))
+    sym (own-decide _ (Call.Apply _) (passed-head (passed w)) (sym (said w) ∙ c .before .why .given .1))
 
 returns-3 : tie.Need-returns-3
 unfolding ownRows done applicationDone
@@ -91,7 +94,7 @@ returns-3 c =
     let w = c .before .before .before .before in
     let paid = c .before .before .lower-figure .ensures in
     rw (c .lower-figure2 .ensures .1, paid .1, paid .0)
-    (sym (own-decide _ (Call.Apply _) (book-sound (taken w)) (accepted w)))
+    (sym (own-decide _ (Call.Apply _) (passed-head (taken w)) (accepted w)))
 
 pub apply-spec : {M : Type 1} → statement M
 apply-spec =

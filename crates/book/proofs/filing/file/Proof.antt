@@ -30,8 +30,11 @@ headed c = rw (← c .before .arrays-sound .ensures) (c .head-verdict .ensures)
 abbrev start : tie.After-enum-told → tie.Start
 start c = entry (c .before .before)
 
+passed-head : (c : tie.After-enum-told) → firstRefusal (headRows (sound (start c .args .book))) ≡ Accepted
+passed-head c = sym (headed (c .before .before)) ∙ c .enum-told .given .1
+
 book-sound : (c : tie.After-enum-told) → sound (start c .args .book) ≡ true
-book-sound c = head-sound _ (sym (headed (c .before .before)) ∙ c .enum-told .given .1)
+book-sound c = head-sound _ (passed-head c)
 
 -- the call's own rows
 abbrev passed : tie.After-file-verdict → tie.After-enum-told
@@ -146,7 +149,7 @@ returns-2 : tie.Need-returns-2
 unfolding ownRows
 returns-2 c =
     let w = c .before .before .before in
-    sym (own-decide _ (Call.File _) (book-sound (passed w)) (sym (said w) ∙ c .before .why .given .1))
+    sym (own-decide _ (Call.File _) (passed-head (passed w)) (sym (said w) ∙ c .before .why .given .1))
 
 returns-3 : tie.Need-returns-3
 returns-3 c =
@@ -162,7 +165,7 @@ returns-4 c =
       toZ-ofZ (record { sfits = c .struct-told .given .0 .1 }),
       figure (c .before .before .before .before .before .before),
     )
-    (sym (own-decide _ (Call.File _) (book-sound (taken (storing c))) (accepted (storing c))))
+    (sym (own-decide _ (Call.File _) (passed-head (taken (storing c))) (accepted (storing c))))
 
 pub file-spec : {M : Type 1} → statement M
 file-spec =

@@ -21,6 +21,7 @@ pub mod FreshSound
 pub mod KeptSound
 pub mod NeverUnsound
 pub mod MarkedFigures
+pub mod EachAccount
 pub mod InPlaceWalk
 pub mod LentWalk
 pub mod DispatchWalk

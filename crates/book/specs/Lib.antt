@@ -11,3 +11,4 @@ pub mod Demand1
 pub mod Companions
 pub mod Listing
 pub mod Marked
+pub mod EachAccount

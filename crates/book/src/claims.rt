@@ -9,6 +9,7 @@ ghost use Rattle.book.specs.Demand1.{Demand1};
 ghost use Rattle.book.specs.Demand3.{Demand3};
 ghost use Rattle.book.specs.Companions.{KeepsSound, NeverUnsound, Stays, StrikeOut};
 ghost use Rattle.book.specs.Marked.{MarkedFigures};
+ghost use Rattle.book.specs.EachAccount.{EachAccount};
 ghost use Rattle.book.specs.declared.ledger.Book.{Book};
 ghost use Rattle.book.specs.declared.kinds.Call.{Call};
 
@@ -57,6 +58,13 @@ pub fn strike_out() -> bool
 // An expired lot and an overdue shortage stay.
 pub fn stays() -> bool
     ensures { λ r. ⌜ (r ≡ true) × ((b : Book) (cs : List Call) (k : Key) → In k → Stays b cs k) ⌝ }
+{
+    true
+}
+
+// Each account by itself.
+pub fn each_account() -> bool
+    ensures { λ r. ⌜ (r ≡ true) × EachAccount ⌝ }
 {
     true
 }

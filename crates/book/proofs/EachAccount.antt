@@ -1,0 +1,12 @@
+-- Each account by itself, by computing.
+use mathlib.Core.Path.{refl}
+use Rattle.figuring.specs.Standards.{standardFor, gramsOf, tractor, printedFor}
+use Rattle.figuring.specs.Parts.{partOf}
+use Rattle.figuring.specs.Netting.{netOf, nearest, earnedOf, shortfallOf}
+use Rattle.book.specs.Postings.{partFor}
+use Rattle.book.specs.Accounts.{sameKey, only, onlyℤ, feed, feedAll, accountsOf}
+use Rattle.book.specs.EachAccount.{EachAccount}
+
+pub each-account : EachAccount
+unfolding accountsOf feedAll feed sameKey only onlyℤ partFor standardFor gramsOf tractor printedFor partOf netOf nearest earnedOf shortfallOf
+each-account = record { seller = refl; buyer = refl; shortage = refl; otherSet = refl }

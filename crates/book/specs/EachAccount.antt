@@ -1,0 +1,46 @@
+-- Each account by itself, on a history that a reader can add up by hand. Demand 3 holds the accounts together, as a
+-- sum: it would hold as well if a sale were entered under applied. Here each stands alone.
+use Prim.Native.Nat.{ℕ}
+use mathlib.Core.Bool.{true, false}
+use mathlib.Core.List.{List, [], _∷_}
+use mathlib.Core.Path.{_≡_}
+use Rattle.book.specs.Ledger.{Key, key}
+use Rattle.book.specs.Accounts.{Accounts, Entry, accountsOf, bought, sold, applied, retired, covered}
+use Rattle.book.specs.Marked.{filingWith}
+use Rattle.book.specs.declared.kinds.Call.{Call}
+
+abbrev pub taken : Call → Entry
+taken c = record { call = c; accepted = true }
+
+abbrev pub turnedDown : Call → Entry
+turnedDown c = record { call = c; accepted = false }
+
+-- the run's first filing and its close; a trade; an application to the shortage of a later year; a retirement; and a
+-- trade that was refused
+abbrev pub example : List Entry
+example =
+    taken (filingWith 0 465)
+    ∷ taken (Call.Close 2014)
+    ∷ taken (Call.Trade (record { from = 0; to = 1; set = 3; vintage = 2014; mg = 200 }))
+    ∷ taken (Call.Apply (record { maker = 1; set = 3; vintage = 2014; year = 2016; mg = 30 }))
+    ∷ taken (Call.Retire (record { maker = 0; set = 3; vintage = 2014; mg = 5 }))
+    ∷ turnedDown (Call.Trade (record { from = 0; to = 1; set = 3; vintage = 2014; mg = 1000 }))
+    ∷ []
+
+-- the Mg at a key in document 01's order: "earned, shortfall, bought, sold, applied, retired and covered"
+abbrev pub mgAt : Accounts → Key → List ℕ
+mgAt a k =
+    a .earned k
+    ∷ a .shortfall k
+    ∷ a .mg bought k
+    ∷ a .mg sold k
+    ∷ a .mg applied k
+    ∷ a .mg retired k
+    ∷ a .mg covered k
+    ∷ []
+
+pub record EachAccount : Type 0 where
+  pub seller : mgAt (accountsOf example) (key 0 3 2014) ≡ 12180 ∷ 0 ∷ 0 ∷ 200 ∷ 0 ∷ 5 ∷ 0 ∷ []
+  pub buyer : mgAt (accountsOf example) (key 1 3 2014) ≡ 0 ∷ 0 ∷ 200 ∷ 0 ∷ 30 ∷ 0 ∷ 0 ∷ []
+  pub shortage : mgAt (accountsOf example) (key 1 3 2016) ≡ 0 ∷ 0 ∷ 0 ∷ 0 ∷ 0 ∷ 0 ∷ 30 ∷ []
+  pub otherSet : mgAt (accountsOf example) (key 0 2 2014) ≡ 0 ∷ 0 ∷ 0 ∷ 0 ∷ 0 ∷ 0 ∷ 0 ∷ []

@@ -31,7 +31,7 @@ use Rattle.book.proofs.Balances.{Agree, sums-put}
 use Rattle.book.proofs.Lawful.{Lawful}
 
 -- a place is the one that was written, or it is not
-abbrev Here : ℕ → ℕ → ℕ → ℕ → Type 0
+abbrev pub Here : ℕ → ℕ → ℕ → ℕ → Type 0
 Here c f d g = (d ≡ c) × (g ≡ f)
 
 here : (c f d g : ℕ) → Dec (Here c f d g)
@@ -64,20 +64,20 @@ module _ (b : Book) (c f : ℕ) (z : ℤ) (sized : Sized b) (hc : c < cells) (hf
   abbrev partsAfter : List ℤ
   partsAfter = store (b .parts) (c * families + f) z
 
-  part-here : (d g : ℕ) → Here c f d g → partAt partsAfter d g ≡ z
+  pub part-here : (d g : ℕ) → Here c f d g → partAt partsAfter d g ≡ z
   part-here d g w = rw (w .0, w .1) (getD-set-same (b .parts) (c * families + f) z (pos 0) (omega arith))
 
-  part-there : (d g : ℕ) → g < families → (Here c f d g → ⊥) → partAt partsAfter d g ≡ partAt (b .parts) d g
+  pub part-there : (d g : ℕ) → g < families → (Here c f d g → ⊥) → partAt partsAfter d g ≡ partAt (b .parts) d g
   part-there d g hg n =
       getD-set-other (b .parts) (c * families + f) (d * families + g) z (pos 0) (λ e. n (omega arith, omega arith))
 
   mark-of : getD marksAfter c 0 ≡ withMark markBefore f
   mark-of = getD-set-same (b .marks) c (withMark markBefore f) 0 (omega arith)
 
-  mark-here : (d g : ℕ) → Here c f d g → marked (getD marksAfter d 0) g ≡ true
+  pub mark-here : (d g : ℕ) → Here c f d g → marked (getD marksAfter d 0) g ≡ true
   mark-here d g w = rw (w .0, w .1, mark-of) (marked-same markBefore f)
 
-  mark-there : (d g : ℕ) → (Here c f d g → ⊥) → marked (getD marksAfter d 0) g ≡ marked (getD (b .marks) d 0) g
+  pub mark-there : (d g : ℕ) → (Here c f d g → ⊥) → marked (getD marksAfter d 0) g ≡ marked (getD (b .marks) d 0) g
   mark-there d g n = go (ℕ-discrete d c)
     where
       go : Dec (d ≡ c) → marked (getD marksAfter d 0) g ≡ marked (getD (b .marks) d 0) g

@@ -22,6 +22,9 @@ pub mod KeptSound
 pub mod NeverUnsound
 pub mod MarkedFigures
 pub mod EachAccount
+pub mod AmongLaws
+pub mod FiledAlone
+pub mod FilingOrder
 pub mod InPlaceWalk
 pub mod LentWalk
 pub mod DispatchWalk

@@ -1,6 +1,6 @@
 -- Setting a family's bit.
-use Prim.Native.Nat.{ℕ, zero, suc, _+_, _*_, _-_, _/_, _%_, _^_, _<_}
-use mathlib.Core.Bool.{true, false}
+use Prim.Native.Nat.{ℕ, zero, suc, _+_, _*_, _-_, _/_, _%_, _^_, _≤_, _<_}
+use mathlib.Core.Bool.{true, false, true≢false}
 use mathlib.Core.Path.{_≡_, refl, sym, _∙_, ap, ap₂}
 use native.Mathlib.Omega.{arith}
 use native.Mathlib.Nat.{one-mul, add-zero, pow-suc, div-eq-of-lt, mod-lt}
@@ -8,7 +8,7 @@ use native.Mathlib.Decide.{decLt}
 use borrow.Author.Tests.{eqb-false}
 use lib.Dec.{eqb}
 use lib.Bits.{bitOr, or-shr, or-mod, or-zero-r, or-block}
-use lib.Pow.{pow-pos, pow-lt, pow-add, shl-shr, split}
+use lib.Pow.{pow-pos, pow-lt, pow-add, shl-shr, shr-shr, split}
 use lib.Count.{ones, ones-cat, ones-step}
 use Rattle.book.specs.Ledger.{marked, withMark, filedIn}
 
@@ -74,3 +74,30 @@ count-more mark f h =
     ∙ ones-cat f (bitOr q 1) r l
     ∙ ap (λ (x : ℕ). x + ones r) (ones-even q even)
     ∙ (let e : ones mark ≡ ones q + ones r = ap ones whole ∙ ones-cat f q r l in omega arith)
+
+-- ---- a mark is given by its digits
+same-digit : (x y : ℕ) → x < 2 → y < 2 → eqb x 1 ≡ eqb y 1 → x ≡ y
+same-digit zero zero h k e = refl
+same-digit zero (suc zero) h k e = absurd (true≢false (sym e))
+same-digit (suc zero) zero h k e = absurd (true≢false e)
+same-digit (suc zero) (suc zero) h k e = refl
+same-digit (suc (suc x)) y h k e = absurd (omega arith)
+same-digit zero (suc (suc y)) h k e = absurd (omega arith)
+same-digit (suc zero) (suc (suc y)) h k e = absurd (omega arith)
+
+half-marked : (mark n : ℕ) → marked (mark / 2) n ≡ marked mark (1 + n)
+unfolding marked
+half-marked mark n = ap (λ (x : ℕ). eqb (x % 2) 1) (shr-shr mark 1 n)
+
+same-below : (n x y : ℕ) → x ≤ n → y ≤ n → ((i : ℕ) → marked x i ≡ marked y i) → x ≡ y
+unfolding marked
+same-below zero x y h k e = omega arith
+same-below (suc n) x y h k e =
+    let halves =
+    same-below n (x / 2) (y / 2) (omega arith) (omega arith) (λ i. half-marked x i ∙ e (1 + i) ∙ sym (half-marked y i))
+    in
+    let last : x / 1 % 2 ≡ y / 1 % 2 = same-digit (x / 1 % 2) (y / 1 % 2) (omega arith) (omega arith) (e 0) in
+    omega arith
+
+pub same-mark : (x y : ℕ) → ((i : ℕ) → marked x i ≡ marked y i) → x ≡ y
+same-mark x y e = same-below (x + y) x y (omega arith) (omega arith) e

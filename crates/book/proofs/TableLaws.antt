@@ -66,6 +66,12 @@ stops (x ∷ xs) ys r e = go (x .test) e (stops xs ys r)
     go true h ih = h
     go false h ih = ih h
 
+-- rows that decide alike, after the same rows
+pub same-after :
+    (xs ys zs : List Row) → firstRefusal ys ≡ firstRefusal zs → firstRefusal (xs ++ ys) ≡ firstRefusal (xs ++ zs)
+same-after [] ys zs e = e
+same-after (x ∷ xs) ys zs e = ap (orElse (x .test) (x .why)) (same-after xs ys zs e)
+
 -- ---- the head, and then the call's own rows
 module _ (b : Book) where
   pub head-sound : firstRefusal (headRows (sound b)) ≡ Accepted → sound b ≡ true

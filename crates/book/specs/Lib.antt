@@ -9,6 +9,8 @@ pub mod Accounts
 pub mod Demand3
 pub mod Demand1
 pub mod Companions
+pub mod Orders
+pub mod FilingOrder
 pub mod Listing
 pub mod Marked
 pub mod EachAccount

@@ -8,10 +8,13 @@ ghost use Rattle.book.specs.Rules.{CheckingOrder};
 ghost use Rattle.book.specs.Demand1.{Demand1};
 ghost use Rattle.book.specs.Demand3.{Demand3};
 ghost use Rattle.book.specs.Companions.{KeepsSound, NeverUnsound, Stays, StrikeOut};
+ghost use Rattle.book.specs.Orders.{EveryOrder};
+ghost use Rattle.book.specs.FilingOrder.{FilingOrder, EachAlone};
 ghost use Rattle.book.specs.Marked.{MarkedFigures};
 ghost use Rattle.book.specs.EachAccount.{EachAccount};
 ghost use Rattle.book.specs.declared.ledger.Book.{Book};
 ghost use Rattle.book.specs.declared.kinds.Call.{Call};
+ghost use Rattle.book.specs.declared.kinds.Filing.{Filing};
 
 // Demand 1: its result or one numbered refusal, which leaves the book as it was.
 pub fn answers_or_refuses() -> bool
@@ -72,6 +75,27 @@ pub fn each_account() -> bool
 // P1 to P12.
 pub fn marked_figures() -> bool
     ensures { λ r. ⌜ (r ≡ true) × MarkedFigures ⌝ }
+{
+    true
+}
+
+// Card 1: the order of filings changes neither the book nor what each filing gets.
+pub fn filing_order() -> bool
+    ensures { λ r. ⌜ (r ≡ true) × ((b : Book) (fs gs : List Filing) → FilingOrder b fs gs) ⌝ }
+{
+    true
+}
+
+// The reason: each filing gets what it gets alone, and together they make one book.
+pub fn each_alone() -> bool
+    ensures { λ r. ⌜ (r ≡ true) × ((b : Book) (fs : List Filing) → EachAlone b fs) ⌝ }
+{
+    true
+}
+
+// Card 1 speaks of every order there is.
+pub fn every_order() -> bool
+    ensures { λ r. ⌜ (r ≡ true) × EveryOrder Filing ⌝ }
 {
     true
 }

@@ -1,4 +1,4 @@
--- The four claims, for any input.
+-- The claims, for any input.
 use Prim.Native.Nat.{ℕ}
 use native.Mathlib.Omega.{arith}
 use mathlib.Core.Bool.{true}
@@ -13,7 +13,10 @@ use Rattle.book.specs.Accounts.{Accounts, zeroAccounts, accountsOf}
 use Rattle.book.specs.Demand3 as D
 use Rattle.book.specs.Demand3.{history, Reconciled}
 use Rattle.book.specs.Companions.{acceptedOnly}
+use Rattle.book.specs.Orders.{Among}
+use Rattle.book.specs.FilingOrder.{filings, afterFilings}
 use Rattle.book.specs.declared.kinds.Call.{Call}
+use Rattle.book.specs.declared.kinds.Filing.{Filing}
 use Rattle.book.specs.declared.answers.Answer.{Answer}
 use Rattle.book.specs.declared.ledger.Book.{Book}
 use Rattle.book.proofs.FreshSound.{fresh-sound, fresh-sized}
@@ -21,6 +24,7 @@ use Rattle.book.proofs.SoundnessLaws.{sound-is, sound-lot}
 use Rattle.book.proofs.NeverUnsound.{stays, never-unsound}
 use Rattle.book.proofs.Reconciliation.{demand3}
 use Rattle.book.proofs.StrikeOut.{strike-out}
+use Rattle.book.proofs.FilingOrder.{filing-order}
 use Rattle.text.specs.Line.{mostDigits}
 use Rattle.text.specs.Desk.{lineFeed}
 use Rattle.text.specs.Lines.{linesOf}
@@ -30,7 +34,7 @@ use Rattle.text.specs.Rendered.{Small}
 use Rattle.shown.specs.Calls.{answersOf, calls, answers, postings, finalBook}
 use Rattle.shown.specs.Statement.{accountsBy, yearBy, Item, lot, short, items, itemFigures, itemLines, statement}
 use Rattle.shown.specs.Journal.{journalOf, journal}
-use Rattle.shown.specs.Shown.{answerAfter, Every, Accepts, Says, Leaves, Among, Tells, ByCalls, Demands, OnScreen, JournalKept}
+use Rattle.shown.specs.Shown.{answerAfter, Every, Accepts, Says, Leaves, Tells, ByCalls, Demands, OnScreen, JournalKept, FiledInAnyOrder}
 use Rattle.shown.proofs.CallLaws.{book-by-calls, answers-by-calls, an-answer-each, book-append, answers-in-place, no-two}
 use Rattle.shown.proofs.LeftLaws.{left-by}
 use Rattle.shown.proofs.OrderLaws.{items-rise, only-items}
@@ -175,3 +179,24 @@ module _ (input : List ℕ) where
         torn-book = λ p q e. let t = torn p q e in (t .0, book-by-calls freshBook (linesOf p) ∙ ap (D.bookAfter freshBook) (t .1));
         cut = cut-after;
       }
+
+-- the book of an input in which filings stand between other calls
+filed-between :
+    (input : List ℕ) (before after : List Call) (fs : List Filing) → calls input ≡ before ++ filings fs ++ after
+    → finalBook input ≡ D.bookAfter (afterFilings (D.bookAfter freshBook before) fs) after
+filed-between input before after fs e =
+    by-calls input .book
+    ∙ ap (D.bookAfter freshBook) e
+    ∙ book-append (before ++ filings fs) after freshBook
+    ∙ ap (λ (b : Book). D.bookAfter b after) (book-append before (filings fs) freshBook)
+
+pub filed-in-any-order : (input other : List ℕ) → FiledInAnyOrder input other
+filed-in-any-order input other before after fs gs e d r n =
+    let start = D.bookAfter freshBook before in
+    let o = filing-order start fs gs (stays before freshBook fresh-sized fresh-sound .0) r n in
+    let same : finalBook input ≡ finalBook other =
+    filed-between input before after fs e
+    ∙ ap (λ (b : Book). D.bookAfter b after) (o .books)
+    ∙ sym (filed-between other before after gs d)
+    in
+    record { book = same; list = ap listing same }

@@ -1,4 +1,4 @@
--- Four claims about every input, any bytes whatever, of the terminal that text/specs/Program defines. src/claims.rt
+-- Five claims about every input, any bytes whatever, of the terminal that text/specs/Program defines. src/claims.rt
 -- holds each to its proof.
 use Prim.Native.Nat.{ℕ, suc, _+_, _<_, _≤_}
 use mathlib.Core.Bool.{true}
@@ -13,11 +13,14 @@ use Rattle.book.specs.Refusals.{refusalIn}
 use Rattle.book.specs.Postings.{freshBook, sellerLot, buyerLot, appliedLot, retiredLot}
 use Rattle.book.specs.Rules.{posted}
 use Rattle.book.specs.Companions.{acceptedOnly}
+use Rattle.book.specs.Orders.{Among, Reordered}
+use Rattle.book.specs.FilingOrder.{filings, NoTwoAlike}
 use Rattle.book.specs.Accounts.{Accounts, accountsOf}
 use Rattle.book.specs.Accounts.{bought, sold, applied, retired, covered}
 use Rattle.book.specs.Demand3 as D
 use Rattle.book.specs.Demand3.{isAccepted, history, Reconciled, Demand3}
 use Rattle.book.specs.declared.kinds.Call.{Call}
+use Rattle.book.specs.declared.kinds.Filing.{Filing}
 use Rattle.book.specs.declared.answers.Answer.{Answer}
 use Rattle.text.specs.Pattern.{fit}
 use Rattle.text.specs.Line.{mostDigits}
@@ -83,12 +86,6 @@ Leaves a (Call.Apply p) n = LeftInLot a (appliedLot p) n
 Leaves a (Call.Retire p) n = LeftInLot a (retiredLot p) n
 Leaves a (Call.File f) n = ⊥
 Leaves a (Call.Close y) n = ⊥
-
--- an item stands in a list
-pub record Among (x : Item) (xs : List Item) : Type 0 where
-  pub before : List Item
-  pub after : List Item
-  pub here : xs ≡ before ++ x ∷ after
 
 -- a posting that brought Mg into a line: the close of its year, which earned or lacked some there; or, for a lot, a
 -- trade to it
@@ -161,3 +158,15 @@ pub record JournalKept (input : List ℕ) : Type 0 where
       (p q : List ℕ) → journal input ≡ p ++ lineFeed ∷ q
       → (n : ℕ) × (p ++ lineFeed ∷ [] ≡ journalOf (take n (postings input)))
       × Every Accepts (answers (p ++ lineFeed ∷ []))
+
+-- 5, filing order: where the calls of two inputs differ only in the order of some filings, no two of which name the
+-- same maker, set and number, the books are equal, and so is what is listed.
+pub record SameListing (input other : List ℕ) : Type 0 where
+  pub book : finalBook input ≡ finalBook other
+  pub list : listing (finalBook input) ≡ listing (finalBook other)
+
+abbrev pub FiledInAnyOrder : List ℕ → List ℕ → Type 0
+FiledInAnyOrder input other =
+    (before after : List Call) (fs gs : List Filing)
+    → calls input ≡ before ++ filings fs ++ after → calls other ≡ before ++ filings gs ++ after
+    → Reordered fs gs → NoTwoAlike fs → SameListing input other

@@ -4,7 +4,7 @@ ghost use Prim.Native.Nat.{ℕ};
 ghost use mathlib.Core.Bool.{true};
 ghost use mathlib.Core.List.{List};
 ghost use mathlib.Core.Path.{_≡_};
-ghost use Rattle.shown.specs.Shown.{ByCalls, Demands, JournalKept, OnScreen};
+ghost use Rattle.shown.specs.Shown.{ByCalls, Demands, FiledInAnyOrder, JournalKept, OnScreen};
 
 // The terminal's book and answers are those of the input's calls.
 pub fn by_calls() -> bool
@@ -30,6 +30,13 @@ pub fn on_screen() -> bool
 // The journal of the accepted calls leads to the same book and listing.
 pub fn journal_kept() -> bool
     ensures { λ r. ⌜ (r ≡ true) × ((input : List ℕ) → JournalKept input) ⌝ }
+{
+    true
+}
+
+// The order of filings does not reach the listing.
+pub fn filed_in_any_order() -> bool
+    ensures { λ r. ⌜ (r ≡ true) × ((input other : List ℕ) → FiledInAnyOrder input other) ⌝ }
 {
     true
 }

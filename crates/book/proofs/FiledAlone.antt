@@ -1,0 +1,222 @@
+-- Filings that name different families do not meet: each is answered, count aside, as if it were put alone, and the book after
+-- them is what they make of the first.
+use Prim.Native.Nat.{ℕ, _+_, _*_, _<_}
+use mathlib.Core.Bool.{Bool, true, false, true≢false}
+use mathlib.Core.List.{List, [], _∷_, _++_}
+use mathlib.Core.Path.{_≡_, refl, sym, _∙_, ap, subst}
+use native.Mathlib.Omega.{arith}
+use borrow.Author.Tests.{leb-false}
+use lib.Dec.{leb}
+use lib.ListN.{getD}
+use Rattle.figuring.specs.declared.units.Part.{Part}
+use Rattle.book.specs.Sizes.{makers, sets, cells, families}
+use Rattle.book.specs.Ledger.{cell, marked}
+use Rattle.book.specs.Soundness.{sound}
+use Rattle.book.specs.Refusals.{firstRefusal, refusalIn, valuesIn}
+use Rattle.book.specs.Postings.{filingCell, partFor, stored}
+use Rattle.book.specs.Rules.{headRows, fileRows, ownRows, table, done, outcome, posted}
+use Rattle.book.specs.Demand3.{isAccepted, bookAfter}
+use Rattle.book.specs.Companions.{Sized}
+use Rattle.book.specs.Orders.{Among, without}
+use Rattle.book.specs.FilingOrder.{Family, familyOf, NoTwoAlike, afterFilings, partOrRefusal, getsAfter}
+use Rattle.book.specs.FilingOrder.{isFiled, partIn, Taken, MadeBy}
+use Rattle.book.specs.declared.ledger.Book.{Book}
+use Rattle.book.specs.declared.kinds.Call.{Call}
+use Rattle.book.specs.declared.kinds.Filing.{Filing}
+use Rattle.book.specs.declared.answers.Answer.{Answer}
+use Rattle.book.specs.declared.answers.Verdict.{Verdict}
+use Rattle.book.specs.declared.answers.Verdict.the-variants.{Accepted, Refuse}
+use Rattle.book.proofs.TableLaws.{same-after, by-verdict}
+use Rattle.book.proofs.SoundnessLaws.{is-sound}
+use Rattle.book.proofs.FileFacts.{Fileable, fileable}
+use Rattle.book.proofs.FilingLaws.{Here, part-here, part-there, mark-here, mark-there, file-lawful}
+use Rattle.book.proofs.KeptSound.{keeps-sized}
+use Rattle.book.proofs.AmongLaws.{first, later, none-among, Stands, is-first, in-rest, stands}
+
+-- ---- one filing put to a book: what it changes, and what it leaves
+abbrev next : Book → Filing → Book
+next b f = posted b (Call.File f) .book
+
+abbrev takes : Book → Filing → Bool
+takes b f = isAccepted (posted b (Call.File f) .answer)
+
+cell-of : (b : Book) (f : Filing) → Fileable b f → filingCell f < cells
+cell-of b f h = omega (arith, h .maker, h .set)
+
+-- an accepted filing: its family is one of the book's, and is filed, with its part
+record Own (f : Filing) (after : Book) : Type 0 where
+  maker : f .maker < makers
+  set : f .set < sets
+  number : f .family < families
+  filed : isFiled after (familyOf f) ≡ true
+  part : partIn after (familyOf f) ≡ partFor f
+
+its-own : (b : Book) (f : Filing) → Sized b → takes b f ≡ true → Own f (next b f)
+unfolding done stored ownRows isAccepted
+its-own b f z =
+    by-verdict b (Call.File f) (λ p. isAccepted (p .answer) ≡ true → Own f (p .book))
+    (λ r a. absurd (true≢false (sym a)))
+    (λ s e a.
+    let h = fileable b f s e in
+    let c = cell-of b f h in
+    record {
+      maker = h .maker;
+      set = h .set;
+      number = h .family;
+      filed = mark-here b (filingCell f) (f .family) (partFor f) z c (h .family) (filingCell f) (f .family) (refl, refl);
+      part = part-here b (filingCell f) (f .family) (partFor f) z c (h .family) (filingCell f) (f .family) (refl, refl);
+    })
+
+-- a family that no accepted filing names is as it was
+elsewhere :
+    (b : Book) (f : Filing) → Sized b → (k : Family) → k .set < sets → (takes b f ≡ true → familyOf f ≡ k → ⊥)
+    → (isFiled (next b f) k ≡ isFiled b k) × (k .number < families → partIn (next b f) k ≡ partIn b k)
+unfolding done stored ownRows isAccepted
+elsewhere b f z k hs =
+    by-verdict b (Call.File f)
+    (λ p. (isAccepted (p .answer) ≡ true → familyOf f ≡ k → ⊥)
+    → (isFiled (p .book) k ≡ isFiled b k) × (k .number < families → partIn (p .book) k ≡ partIn b k))
+    (λ r n. (refl, λ h. refl))
+    (λ s e n.
+    let h = fileable b f s e in
+    let c = cell-of b f h in
+    let out : Here (filingCell f) (f .family) (cell (k .maker) (k .set)) (k .number) → ⊥ = λ w. n refl (named h (w .0) (w .1)) in (
+      mark-there b (filingCell f) (f .family) (partFor f) z c (h .family) (cell (k .maker) (k .set)) (k .number) out,
+      λ i. part-there b (filingCell f) (f .family) (partFor f) z c (h .family) (cell (k .maker) (k .set)) (k .number) i out,
+    ))
+  where
+    named : Fileable b f → cell (k .maker) (k .set) ≡ filingCell f → k .number ≡ f .family → familyOf f ≡ k
+    named h c e =
+        let m : f .maker ≡ k .maker = omega (arith, h .set) in
+        let s : f .set ≡ k .set = omega (arith, h .set) in
+        λ i. record { maker = m i; set = s i; number = sym e i }
+
+same-year : (b : Book) (f : Filing) → next b f .«open_year» ≡ b .«open_year»
+unfolding done stored
+same-year b f = by-verdict b (Call.File f) (λ p. p .book .«open_year» ≡ b .«open_year») (λ r. refl) (λ s e. refl)
+
+same-lots : (b : Book) (f : Filing) → next b f .lots ≡ b .lots
+unfolding done stored
+same-lots b f = by-verdict b (Call.File f) (λ p. p .book .lots ≡ b .lots) (λ r. refl) (λ s e. refl)
+
+same-shortages : (b : Book) (f : Filing) → next b f .shortages ≡ b .shortages
+unfolding done stored
+same-shortages b f = by-verdict b (Call.File f) (λ p. p .book .shortages ≡ b .shortages) (λ r. refl) (λ s e. refl)
+
+-- ---- another filing after it
+-- A filing's rows read of the marks whether its own family is filed. One whose set the book has not is refused before that
+-- row: its cell number may be that of another maker.
+rows-by :
+    (Y : ℕ) (m n : List ℕ) (g : Filing)
+    → (g .set < sets → marked (getD m (filingCell g) 0) (g .family) ≡ marked (getD n (filingCell g) 0) (g .family))
+    → firstRefusal (fileRows Y m g) ≡ firstRefusal (fileRows Y n g)
+unfolding fileRows
+rows-by Y m n g same = go (leb sets (g .set)) refl
+  where
+    go : (t : Bool) → leb sets (g .set) ≡ t → firstRefusal (fileRows Y m g) ≡ firstRefusal (fileRows Y n g)
+    go true e = rw e
+    go false e = rw (same (leb-false sets (g .set) e))
+
+same-sound : (b : Book) (f : Filing) → Sized b → sound (next b f) ≡ sound b
+unfolding ownRows
+same-sound b f z =
+    by-verdict b (Call.File f) (λ p. sound (p .book) ≡ sound b) (λ r. refl)
+    (λ s e. is-sound (done b (Call.File f) .book) (file-lawful b f (fileable b f s e) .sound z) ∙ sym s)
+
+module _ (b : Book) (f g : Filing) (z : Sized b) (apart : familyOf f ≡ familyOf g → ⊥) where
+  verdict-same : firstRefusal (table (next b f) (Call.File g)) ≡ firstRefusal (table b (Call.File g))
+  unfolding table ownRows
+  verdict-same =
+      ap (λ (x : Bool). firstRefusal (headRows x ++ ownRows (next b f) (Call.File g))) (same-sound b f z)
+      ∙ same-after (headRows (sound b)) _ _
+      (ap (λ (Y : ℕ). firstRefusal (fileRows Y (next b f .marks) g)) (same-year b f)
+      ∙ rows-by (b .«open_year») (next b f .marks) (b .marks) g (λ h. elsewhere b f z (familyOf g) h (λ a. apart) .0))
+
+  -- what does not read the count
+  answer-same :
+      {X : Type 0} (read : Answer → X) → ((p : Part) (m n : ℕ) → read (Answer.Filed p m) ≡ read (Answer.Filed p n))
+      → read (posted (next b f) (Call.File g) .answer) ≡ read (posted b (Call.File g) .answer)
+  unfolding posted done stored
+  answer-same read same =
+      ap (λ (v : Verdict). read (outcome v (next b f) (done (next b f) (Call.File g)) .answer)) verdict-same
+      ∙ by-cases (firstRefusal (table b (Call.File g)))
+    where
+      by-cases :
+          (v : Verdict)
+          → read (outcome v (next b f) (done (next b f) (Call.File g)) .answer) ≡ read (outcome v b (done b (Call.File g)) .answer)
+      by-cases Accepted = same (record { 0 = partFor g }) _ _
+      by-cases (Refuse r) = refl
+
+  gets-same : getsAfter (next b f) [] g ≡ getsAfter b [] g
+  unfolding bookAfter refusalIn valuesIn
+  gets-same = answer-same partOrRefusal (λ p m n. refl)
+
+  takes-same : takes (next b f) g ≡ takes b g
+  unfolding isAccepted
+  takes-same = answer-same isAccepted (λ p m n. refl)
+
+-- ---- lists
+pub gets-alone :
+    (b : Book) (fs : List Filing) (g : Filing) → Sized b
+    → ((f : Filing) → Among f fs → familyOf f ≡ familyOf g → ⊥) → getsAfter b fs g ≡ getsAfter b [] g
+unfolding bookAfter
+gets-alone b [] g z n = refl
+gets-alone b (f ∷ fs) g z n =
+    gets-alone (next b f) fs g (keeps-sized b (Call.File f) z) (λ h p. n h (later f p)) ∙ gets-same b f g z (n f (first f fs))
+
+-- one filing, and then the rest of the list
+module _ (b : Book) (f : Filing) (fs : List Filing) (z : Sized b) (n : NoTwoAlike (f ∷ fs)) where
+  -- a filing of the rest is taken after f exactly when it is taken alone
+  taken-before : (g : Filing) → Taken (next b f) fs g → Taken b (f ∷ fs) g
+  taken-before g t =
+      record {
+        among = later f (t .among);
+        accepted = sym (takes-same b f g z (n f g (first f fs) (t .among))) ∙ t .accepted;
+      }
+
+  taken-after : (g : Filing) → Among g fs → takes b g ≡ true → Taken (next b f) fs g
+  taken-after g p a = record { among = p; accepted = takes-same b f g z (n f g (first f fs) p) ∙ a }
+
+  -- f is taken, and no filing of the rest names its family
+  first-filed :
+      (after : Book) → MadeBy (next b f) fs after → takes b f ≡ true
+      → (isFiled after (familyOf f) ≡ true) × (partIn after (familyOf f) ≡ partFor f)
+  first-filed after rest a =
+      let o = its-own b f z a in
+      let k = rest .others (familyOf f) (o .maker) (o .set) (λ g t e. n f g (first f fs) (t .among) (sym e)) in
+      (k .0 ∙ o .filed, k .1 (o .number) ∙ o .part)
+
+  each-filed :
+      (after : Book) → MadeBy (next b f) fs after → (g : Filing) (p : Among g (f ∷ fs)) → takes b g ≡ true
+      → Stands g f fs (without p) → (isFiled after (familyOf g) ≡ true) × (partIn after (familyOf g) ≡ partFor g)
+  each-filed after rest g p a (is-first e h) =
+      subst (λ (x : Filing). (isFiled after (familyOf x) ≡ true) × (partIn after (familyOf x) ≡ partFor x)) (sym e)
+      (first-filed after rest (subst (λ (x : Filing). takes b x ≡ true) e a))
+  each-filed after rest g p a (in-rest q h) = rest .filed g (taken-after g q a)
+
+  made-next : (after : Book) → MadeBy (next b f) fs after → MadeBy b (f ∷ fs) after
+  made-next after rest =
+      record {
+        filed = λ g t. each-filed after rest g (t .among) (t .accepted) (stands (t .among));
+        others = λ k hm hs h.
+            let r = rest .others k hm hs (λ g t. h g (taken-before g t)) in
+            let o = elsewhere b f z k hs (λ a. h f (record { among = first f fs; accepted = a })) in
+            (r .0 ∙ o .0, λ i. r .1 i ∙ o .1 i);
+        openYear = rest .openYear ∙ same-year b f;
+        lots = rest .lots ∙ same-lots b f;
+        shortages = rest .shortages ∙ same-shortages b f;
+      }
+
+pub made-by : (b : Book) (fs : List Filing) → Sized b → NoTwoAlike fs → MadeBy b fs (afterFilings b fs)
+unfolding bookAfter
+made-by b [] z n =
+    record {
+      filed = λ f t. absurd (none-among refl (t .among));
+      others = λ k hm hs h. (refl, λ i. refl);
+      openYear = refl;
+      lots = refl;
+      shortages = refl;
+    }
+made-by b (f ∷ fs) z n =
+    made-next b f fs z n (afterFilings (next b f) fs)
+    (made-by (next b f) fs (keeps-sized b (Call.File f) z) (λ g h p q. n g h (later f p) (later f q)))

@@ -1,5 +1,5 @@
--- Filings that name different families do not meet: each is answered, count aside, as if it were put alone, and the book after
--- them is what they make of the first.
+-- Filings that name different families do not meet: each gets what it gets alone, and the book after them is what they make of
+-- the first.
 use Prim.Native.Nat.{ℕ, _+_, _*_, _<_}
 use mathlib.Core.Bool.{Bool, true, false, true≢false}
 use mathlib.Core.List.{List, [], _∷_, _++_}
@@ -13,13 +13,13 @@ use Rattle.book.specs.Sizes.{makers, sets, cells, families}
 use Rattle.book.specs.Ledger.{cell, marked}
 use Rattle.book.specs.Soundness.{sound}
 use Rattle.book.specs.Refusals.{firstRefusal, refusalIn, valuesIn}
-use Rattle.book.specs.Postings.{filingCell, partFor, stored}
+use Rattle.book.specs.Postings.{filingCell, partFor, withFamilies, stored}
 use Rattle.book.specs.Rules.{headRows, fileRows, ownRows, table, done, outcome, posted}
 use Rattle.book.specs.Demand3.{isAccepted, bookAfter}
 use Rattle.book.specs.Companions.{Sized}
 use Rattle.book.specs.Orders.{Among, without}
 use Rattle.book.specs.FilingOrder.{Family, familyOf, NoTwoAlike, afterFilings, partOrRefusal, getsAfter}
-use Rattle.book.specs.FilingOrder.{isFiled, partIn, Taken, MadeBy}
+use Rattle.book.specs.FilingOrder.{Holds, SameOf, Taken, MadeBy}
 use Rattle.book.specs.declared.ledger.Book.{Book}
 use Rattle.book.specs.declared.kinds.Call.{Call}
 use Rattle.book.specs.declared.kinds.Filing.{Filing}
@@ -48,8 +48,7 @@ record Own (f : Filing) (after : Book) : Type 0 where
   maker : f .maker < makers
   set : f .set < sets
   number : f .family < families
-  filed : isFiled after (familyOf f) ≡ true
-  part : partIn after (familyOf f) ≡ partFor f
+  holds : Holds after f
 
 its-own : (b : Book) (f : Filing) → Sized b → takes b f ≡ true → Own f (next b f)
 unfolding done stored ownRows isAccepted
@@ -63,26 +62,27 @@ its-own b f z =
       maker = h .maker;
       set = h .set;
       number = h .family;
-      filed = mark-here b (filingCell f) (f .family) (partFor f) z c (h .family) (filingCell f) (f .family) (refl, refl);
-      part = part-here b (filingCell f) (f .family) (partFor f) z c (h .family) (filingCell f) (f .family) (refl, refl);
+      holds = (
+        mark-here b (filingCell f) (f .family) (partFor f) z c (h .family) (filingCell f) (f .family) (refl, refl),
+        part-here b (filingCell f) (f .family) (partFor f) z c (h .family) (filingCell f) (f .family) (refl, refl),
+      );
     })
 
 -- a family that no accepted filing names is as it was
 elsewhere :
     (b : Book) (f : Filing) → Sized b → (k : Family) → k .set < sets → (takes b f ≡ true → familyOf f ≡ k → ⊥)
-    → (isFiled (next b f) k ≡ isFiled b k) × (k .number < families → partIn (next b f) k ≡ partIn b k)
+    → SameOf (next b f) b k
 unfolding done stored ownRows isAccepted
 elsewhere b f z k hs =
-    by-verdict b (Call.File f)
-    (λ p. (isAccepted (p .answer) ≡ true → familyOf f ≡ k → ⊥)
-    → (isFiled (p .book) k ≡ isFiled b k) × (k .number < families → partIn (p .book) k ≡ partIn b k))
+    by-verdict b (Call.File f) (λ p. (isAccepted (p .answer) ≡ true → familyOf f ≡ k → ⊥) → SameOf (p .book) b k)
     (λ r n. (refl, λ h. refl))
     (λ s e n.
     let h = fileable b f s e in
     let c = cell-of b f h in
-    let out : Here (filingCell f) (f .family) (cell (k .maker) (k .set)) (k .number) → ⊥ = λ w. n refl (named h (w .0) (w .1)) in (
-      mark-there b (filingCell f) (f .family) (partFor f) z c (h .family) (cell (k .maker) (k .set)) (k .number) out,
-      λ i. part-there b (filingCell f) (f .family) (partFor f) z c (h .family) (cell (k .maker) (k .set)) (k .number) i out,
+    let d = cell (k .maker) (k .set) in
+    let out : Here (filingCell f) (f .family) d (k .number) → ⊥ = λ w. n refl (named h (w .0) (w .1)) in (
+      mark-there b (filingCell f) (f .family) (partFor f) z c (h .family) d (k .number) out,
+      λ i. part-there b (filingCell f) (f .family) (partFor f) z c (h .family) d (k .number) i out,
     ))
   where
     named : Fileable b f → cell (k .maker) (k .set) ≡ filingCell f → k .number ≡ f .family → familyOf f ≡ k
@@ -91,17 +91,11 @@ elsewhere b f z k hs =
         let s : f .set ≡ k .set = omega (arith, h .set) in
         λ i. record { maker = m i; set = s i; number = sym e i }
 
-same-year : (b : Book) (f : Filing) → next b f .«open_year» ≡ b .«open_year»
+-- and so is all else in the book
+else-same : (b : Book) (f : Filing) → next b f ≡ withFamilies b (next b f .marks) (next b f .parts)
 unfolding done stored
-same-year b f = by-verdict b (Call.File f) (λ p. p .book .«open_year» ≡ b .«open_year») (λ r. refl) (λ s e. refl)
-
-same-lots : (b : Book) (f : Filing) → next b f .lots ≡ b .lots
-unfolding done stored
-same-lots b f = by-verdict b (Call.File f) (λ p. p .book .lots ≡ b .lots) (λ r. refl) (λ s e. refl)
-
-same-shortages : (b : Book) (f : Filing) → next b f .shortages ≡ b .shortages
-unfolding done stored
-same-shortages b f = by-verdict b (Call.File f) (λ p. p .book .shortages ≡ b .shortages) (λ r. refl) (λ s e. refl)
+else-same b f =
+    by-verdict b (Call.File f) (λ p. p .book ≡ withFamilies b (p .book .marks) (p .book .parts)) (λ r. refl) (λ s e. refl)
 
 -- ---- another filing after it
 -- A filing's rows read of the marks whether its own family is filed. One whose set the book has not is refused before that
@@ -129,7 +123,7 @@ module _ (b : Book) (f g : Filing) (z : Sized b) (apart : familyOf f ≡ familyO
   verdict-same =
       ap (λ (x : Bool). firstRefusal (headRows x ++ ownRows (next b f) (Call.File g))) (same-sound b f z)
       ∙ same-after (headRows (sound b)) _ _
-      (ap (λ (Y : ℕ). firstRefusal (fileRows Y (next b f .marks) g)) (same-year b f)
+      (ap (λ (d : Book). firstRefusal (fileRows (d .«open_year») (next b f .marks) g)) (else-same b f)
       ∙ rows-by (b .«open_year») (next b f .marks) (b .marks) g (λ h. elsewhere b f z (familyOf g) h (λ a. apart) .0))
 
   -- what does not read the count
@@ -178,20 +172,17 @@ module _ (b : Book) (f : Filing) (fs : List Filing) (z : Sized b) (n : NoTwoAlik
   taken-after g p a = record { among = p; accepted = takes-same b f g z (n f g (first f fs) p) ∙ a }
 
   -- f is taken, and no filing of the rest names its family
-  first-filed :
-      (after : Book) → MadeBy (next b f) fs after → takes b f ≡ true
-      → (isFiled after (familyOf f) ≡ true) × (partIn after (familyOf f) ≡ partFor f)
+  first-filed : (after : Book) → MadeBy (next b f) fs after → takes b f ≡ true → Holds after f
   first-filed after rest a =
       let o = its-own b f z a in
       let k = rest .others (familyOf f) (o .maker) (o .set) (λ g t e. n f g (first f fs) (t .among) (sym e)) in
-      (k .0 ∙ o .filed, k .1 (o .number) ∙ o .part)
+      (k .0 ∙ o .holds .0, k .1 (o .number) ∙ o .holds .1)
 
   each-filed :
       (after : Book) → MadeBy (next b f) fs after → (g : Filing) (p : Among g (f ∷ fs)) → takes b g ≡ true
-      → Stands g f fs (without p) → (isFiled after (familyOf g) ≡ true) × (partIn after (familyOf g) ≡ partFor g)
+      → Stands g f fs (without p) → Holds after g
   each-filed after rest g p a (is-first e h) =
-      subst (λ (x : Filing). (isFiled after (familyOf x) ≡ true) × (partIn after (familyOf x) ≡ partFor x)) (sym e)
-      (first-filed after rest (subst (λ (x : Filing). takes b x ≡ true) e a))
+      subst (Holds after) (sym e) (first-filed after rest (subst (λ (x : Filing). takes b x ≡ true) e a))
   each-filed after rest g p a (in-rest q h) = rest .filed g (taken-after g q a)
 
   made-next : (after : Book) → MadeBy (next b f) fs after → MadeBy b (f ∷ fs) after
@@ -202,9 +193,7 @@ module _ (b : Book) (f : Filing) (fs : List Filing) (z : Sized b) (n : NoTwoAlik
             let r = rest .others k hm hs (λ g t. h g (taken-before g t)) in
             let o = elsewhere b f z k hs (λ a. h f (record { among = first f fs; accepted = a })) in
             (r .0 ∙ o .0, λ i. r .1 i ∙ o .1 i);
-        openYear = rest .openYear ∙ same-year b f;
-        lots = rest .lots ∙ same-lots b f;
-        shortages = rest .shortages ∙ same-shortages b f;
+        else = rest .else ∙ ap (λ (d : Book). withFamilies d (after .marks) (after .parts)) (else-same b f);
       }
 
 pub made-by : (b : Book) (fs : List Filing) → Sized b → NoTwoAlike fs → MadeBy b fs (afterFilings b fs)
@@ -213,9 +202,7 @@ made-by b [] z n =
     record {
       filed = λ f t. absurd (none-among refl (t .among));
       others = λ k hm hs h. (refl, λ i. refl);
-      openYear = refl;
-      lots = refl;
-      shortages = refl;
+      else = refl;
     }
 made-by b (f ∷ fs) z n =
     made-next b f fs z n (afterFilings (next b f) fs)

@@ -24,6 +24,7 @@ pub mod MarkedFigures
 pub mod EachAccount
 pub mod AmongLaws
 pub mod FiledAlone
+pub mod OneBook
 pub mod FilingOrder
 pub mod InPlaceWalk
 pub mod LentWalk

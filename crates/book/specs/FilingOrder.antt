@@ -1,6 +1,5 @@
 -- Card 1, "Filing order": the same filings, put to the same book in another order. `FilingOrder` is the card's
--- sentence, `EachAlone` the reason for it. The proofs are `filing-order` of proofs/FilingOrder.antt and `each-alone`
--- of proofs/FiledAlone.antt.
+-- sentence, `EachAlone` the reason for it; the proofs are in proofs/FilingOrder.antt.
 -- The card's book is sound and its filings are of one model year. Neither is asked here: a book that is not sound
 -- refuses every filing by 2, and a filing of another year than the open one is refused wherever it stands.
 use Prim.Native.Nat.{ℕ, _<_}
@@ -12,7 +11,7 @@ use lib.IntN.{ℤ}
 use Rattle.book.specs.Sizes.{makers, sets, families}
 use Rattle.book.specs.Ledger.{cell, marked, partAt}
 use Rattle.book.specs.Refusals.{refusalIn, resultIn}
-use Rattle.book.specs.Postings.{partFor}
+use Rattle.book.specs.Postings.{partFor, withFamilies}
 use Rattle.book.specs.Rules.{posted}
 use Rattle.book.specs.Demand3.{isAccepted, bookAfter}
 use Rattle.book.specs.Companions.{Sized}
@@ -73,24 +72,30 @@ isFiled b k = marked (getD (b .marks) (cell (k .maker) (k .set)) 0) (k .number)
 abbrev pub partIn : Book → Family → ℤ
 partIn b k = partAt (b .parts) (cell (k .maker) (k .set)) (k .number)
 
--- a filing of the list that is accepted where it is put to the first book alone
+-- a filing's family is filed, with its part
+abbrev pub Holds : Book → Filing → Type 0
+Holds b f = (isFiled b (familyOf f) ≡ true) × (partIn b (familyOf f) ≡ partFor f)
+
+-- Two books keep the same of a family. A mark is a number here, so its digit is compared whatever the family's
+-- number; a part stands only under a number of the book.
+abbrev pub SameOf : Book → Book → Family → Type 0
+SameOf x y k = (isFiled x k ≡ isFiled y k) × (k .number < families → partIn x k ≡ partIn y k)
+
+-- a filing of the list that is accepted where it is put to the book alone
 pub record Taken (b : Book) (fs : List Filing) (f : Filing) : Type 0 where
   pub among : Among f fs
   pub accepted : isAccepted (posted b (Call.File f) .answer) ≡ true
 
--- What a list of filings makes of a book b, said of the filings and not of their order. A mark is a number here, so
--- its digit is said of any family number; a part stands only where the number is one of the book's.
+-- what filings make of a book b, said of them all and not of their order
 pub record MadeBy (b : Book) (fs : List Filing) (after : Book) : Type 0 where
-  -- every filing that is taken: its family is filed, with its part
-  pub filed : (f : Filing) → Taken b fs f → (isFiled after (familyOf f) ≡ true) × (partIn after (familyOf f) ≡ partFor f)
+  -- those that are taken are filed
+  pub filed : (f : Filing) → Taken b fs f → Holds after f
   -- a family that none of them names is as it was
   pub others :
       (k : Family) → k .maker < makers → k .set < sets → ((f : Filing) → Taken b fs f → familyOf f ≡ k → ⊥)
-      → (isFiled after k ≡ isFiled b k) × (k .number < families → partIn after k ≡ partIn b k)
-  -- and so is everything else
-  pub openYear : after .«open_year» ≡ b .«open_year»
-  pub lots : after .lots ≡ b .lots
-  pub shortages : after .shortages ≡ b .shortages
+      → SameOf after b k
+  -- and so is all else in the book
+  pub else : after ≡ withFamilies b (after .marks) (after .parts)
 
 pub record Alone (b : Book) (fs : List Filing) : Type 0 where
   -- each filing gets the part or the refusal that it gets where it is put to the first book alone

@@ -44,20 +44,24 @@ partFor f =
 abbrev pub filingCell : Filing → ℕ
 filingCell f = cell (f .maker) (f .set)
 
+-- the book with these marks and parts: what a filing writes, and all else as it was
+abbrev pub withFamilies : Book → List ℕ → List ℤ → Book
+withFamilies b m p =
+    record {
+      «open_year» = b .«open_year»;
+      marks = m;
+      parts = p;
+      lots = b .lots;
+      shortages = b .shortages;
+    }
+
 -- a part stored in a cell, with its family's bit set
 unfoldable pub stored : Book → ℕ → ℕ → ℤ → Posted
 stored b c family z =
     let mark = withMark (getD (b .marks) c 0) family in
     record {
       answer = Answer.Filed (record { 0 = z }) (filedIn mark);
-      book =
-          record {
-            «open_year» = b .«open_year»;
-            marks = store (b .marks) c mark;
-            parts = store (b .parts) (c * families + family) z;
-            lots = b .lots;
-            shortages = b .shortages;
-          };
+      book = withFamilies b (store (b .marks) c mark) (store (b .parts) (c * families + family) z);
     }
 
 abbrev pub filingDone : Book → Filing → Posted

@@ -1,6 +1,6 @@
 -- Filing order: two orders of the same filings make one book, and each filing gets in both what it gets alone.
 use mathlib.Core.List.{List, [], _∷_}
-use mathlib.Core.Path.{_≡_, sym, _∙_}
+use mathlib.Core.Path.{sym, _∙_}
 use Rattle.book.specs.Rules.{posted}
 use Rattle.book.specs.Demand3.{bookAfter}
 use Rattle.book.specs.Companions.{Sized}

@@ -6,7 +6,7 @@ use lib.ListN.{length}
 use Rattle.book.specs.Sizes.{cells, places, allParts}
 use Rattle.book.specs.Soundness.{sound}
 use Rattle.book.specs.Postings.{freshBook}
-use Rattle.book.specs.Ledger.{Key, In, figureAt}
+use Rattle.book.specs.Ledger.{Key, figureAt}
 use Rattle.figuring.specs.Life.{expired, overdue}
 use Rattle.book.specs.Refusals.{refusalIn}
 use Rattle.book.specs.Rules.{posted}

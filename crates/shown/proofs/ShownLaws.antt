@@ -6,7 +6,7 @@ use mathlib.Core.List.{List, [], _∷_, _++_}
 use mathlib.Core.Logic.{_↔_}
 use mathlib.Core.Path.{_≡_, sym, _∙_, ap, ap₂, subst}
 use lib.ListN.{take}
-use Rattle.book.specs.Ledger.{Key, In, figureAt}
+use Rattle.book.specs.Ledger.{Key, In}
 use Rattle.book.specs.Soundness.{sound}
 use Rattle.book.specs.Postings.{freshBook}
 use Rattle.book.specs.Accounts.{Accounts, zeroAccounts, accountsOf}

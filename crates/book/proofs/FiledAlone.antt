@@ -12,13 +12,13 @@ use Rattle.figuring.specs.declared.units.Part.{Part}
 use Rattle.book.specs.Sizes.{makers, sets, cells, families}
 use Rattle.book.specs.Ledger.{cell, marked}
 use Rattle.book.specs.Soundness.{sound}
-use Rattle.book.specs.Refusals.{firstRefusal, refusalIn, valuesIn}
+use Rattle.book.specs.Refusals.{firstRefusal}
 use Rattle.book.specs.Postings.{filingCell, partFor, withFamilies, stored}
 use Rattle.book.specs.Rules.{headRows, fileRows, ownRows, table, done, outcome, posted}
 use Rattle.book.specs.Demand3.{isAccepted, bookAfter}
 use Rattle.book.specs.Companions.{Sized}
 use Rattle.book.specs.Orders.{Among, without}
-use Rattle.book.specs.FilingOrder.{Family, familyOf, NoTwoAlike, afterFilings, partOrRefusal, getsAfter}
+use Rattle.book.specs.FilingOrder.{Family, familyOf, NoTwoAlike, afterFilings, countAside, getsAfter}
 use Rattle.book.specs.FilingOrder.{Holds, SameOf, Taken, MadeBy}
 use Rattle.book.specs.declared.ledger.Book.{Book}
 use Rattle.book.specs.declared.kinds.Call.{Call}
@@ -142,8 +142,8 @@ module _ (b : Book) (f g : Filing) (z : Sized b) (apart : familyOf f ≡ familyO
       by-cases (Refuse r) = refl
 
   gets-same : getsAfter (next b f) [] g ≡ getsAfter b [] g
-  unfolding bookAfter refusalIn valuesIn
-  gets-same = answer-same partOrRefusal (λ p m n. refl)
+  unfolding bookAfter
+  gets-same = answer-same countAside (λ p m n. refl)
 
   takes-same : takes (next b f) g ≡ takes b g
   unfolding isAccepted

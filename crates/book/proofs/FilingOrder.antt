@@ -1,30 +1,22 @@
 -- Filing order: two orders of the same filings make one book, and each filing gets in both what it gets alone.
 use mathlib.Core.List.{List, [], _∷_}
-use mathlib.Core.Path.{sym, _∙_}
-use Rattle.book.specs.Rules.{posted}
-use Rattle.book.specs.Demand3.{bookAfter}
+use mathlib.Core.Path.{_≡_, refl, sym, _∙_, ap, subst}
 use Rattle.book.specs.Companions.{Sized}
-use Rattle.book.specs.Orders.{without, Reordered}
-use Rattle.book.specs.FilingOrder.{NoTwoAlike, afterFilings, MadeBy, FilingOrder, EachAlone}
+use Rattle.book.specs.Orders.{Among, without, Reordered}
+use Rattle.book.specs.FilingOrder.{familyOf, NoTwoAlike, filings, afterFilings, MadeBy, FilingOrder, AsksNoMore, EachAlone}
 use Rattle.book.specs.declared.ledger.Book.{Book}
-use Rattle.book.specs.declared.kinds.Call.{Call}
 use Rattle.book.specs.declared.kinds.Filing.{Filing}
-use Rattle.book.proofs.KeptSound.{keeps-sized}
-use Rattle.book.proofs.AmongLaws.{in-left, both-without, back}
+use Rattle.book.proofs.KeptSound.{sized-after}
+use Rattle.book.proofs.AmongLaws.{none-among, Stands, is-first, in-rest, stands, in-left, both-without, back, every-order}
 use Rattle.book.proofs.FiledAlone.{gets-alone, made-by}
 use Rattle.book.proofs.OneBook.{one-book}
-
-sized-after : (b : Book) (fs : List Filing) → Sized b → Sized (afterFilings b fs)
-unfolding bookAfter
-sized-after b [] z = z
-sized-after b (f ∷ fs) z = sized-after (posted b (Call.File f) .book) fs (keeps-sized b (Call.File f) z)
 
 pub each-alone : (b : Book) (fs : List Filing) → EachAlone b fs
 each-alone b fs z n =
     record {
       answers = λ f p. gets-alone b (p .before) f z (λ g q e. n f g p (in-left (p .after) q) (sym e));
       book = made-by b fs z n;
-      only = λ after s m. one-book b fs after (afterFilings b fs) s (sized-after b fs z) m (made-by b fs z n);
+      only = λ after s m. one-book b fs after (afterFilings b fs) s (sized-after b (filings fs) z) m (made-by b fs z n);
     }
 
 -- the filings of the second order are those of the first
@@ -47,6 +39,24 @@ filing-order b fs gs z r n =
     let u = each-alone b fs z n in
     let v = each-alone b gs z (none-alike fs gs r n) in
     record {
-      books = sym (u .only (afterFilings b gs) (sized-after b gs z) (made-as b fs gs (afterFilings b gs) r (v .book)));
+      books = sym (u .only (afterFilings b gs) (sized-after b (filings gs) z) (made-as b fs gs (afterFilings b gs) r (v .book)));
       answers = λ f p q. u .answers f p ∙ sym (v .answers f q);
     }
+
+-- ---- what the premises ask
+one-more :
+    (f : Filing) (fs : List Filing) → ((g : Filing) → Among g fs → familyOf f ≡ familyOf g → ⊥) → NoTwoAlike fs
+    → NoTwoAlike (f ∷ fs)
+one-more f fs new n g h p q e = go (stands p)
+  where
+    -- both stand in the rest, or h is f
+    rest : (r : Among g fs) (s : Among h (f ∷ without r)) → Stands h f (without r) (without s) → ⊥
+    rest r s (is-first d w) = new g r (sym (ap familyOf d) ∙ sym e)
+    rest r s (in-rest t w) = n g h r t e
+
+    go : Stands g f fs (without p) → ⊥
+    go (is-first d w) = new h (subst (Among h) w q) (sym (ap familyOf d) ∙ e)
+    go (in-rest r w) = let s = subst (Among h) w q in rest r s (stands s)
+
+pub asks-no-more : AsksNoMore
+asks-no-more = record { orders = every-order Filing; none = λ f g p. absurd (none-among refl p); more = one-more }

@@ -1,25 +1,26 @@
 -- Card 1, "Filing order": the same filings, put to the same book in another order. `FilingOrder` is the card's
 -- sentence, `EachAlone` the reason for it; the proofs are in proofs/FilingOrder.antt.
 -- The card's book is sound and its filings are of one model year. Neither is asked here: a book that is not sound
--- refuses every filing by 2, and a filing of another year than the open one is refused wherever it stands.
+-- refuses every filing by 2, and a filing of another year than the open one is refused wherever it stands. What is
+-- asked is `Sized`: every book of the program is.
 use Prim.Native.Nat.{ℕ, _<_}
 use mathlib.Core.Bool.{Bool, true}
-use mathlib.Core.List.{List, [], _∷_}
+use mathlib.Core.List.{List, [], _∷_, map}
 use mathlib.Core.Path.{_≡_}
 use lib.ListN.{getD}
 use lib.IntN.{ℤ}
 use Rattle.book.specs.Sizes.{makers, sets, families}
 use Rattle.book.specs.Ledger.{cell, marked, partAt}
-use Rattle.book.specs.Refusals.{refusalIn, resultIn}
 use Rattle.book.specs.Postings.{partFor, withFamilies}
 use Rattle.book.specs.Rules.{posted}
 use Rattle.book.specs.Demand3.{isAccepted, bookAfter}
 use Rattle.book.specs.Companions.{Sized}
-use Rattle.book.specs.Orders.{Among, without, Reordered}
+use Rattle.book.specs.Orders.{Among, without, Reordered, EveryOrder}
 use Rattle.book.specs.declared.ledger.Book.{Book}
 use Rattle.book.specs.declared.kinds.Call.{Call}
 use Rattle.book.specs.declared.kinds.Filing.{Filing}
 use Rattle.book.specs.declared.answers.Answer.{Answer}
+use Rattle.book.specs.declared.answers.Answer.the-variants.{Refused, Filed, Closed, Left}
 
 -- what a filing names: "maker, set and number"
 pub record Family : Type 0 where
@@ -37,20 +38,22 @@ NoTwoAlike fs = (f g : Filing) (p : Among f fs) → Among g (without p) → fami
 -- ---- a list of filings, put to a book one after the other
 
 abbrev pub filings : List Filing → List Call
-filings [] = []
-filings (f ∷ fs) = Call.File f ∷ filings fs
+filings = map Call.File
 
 abbrev pub afterFilings : Book → List Filing → Book
 afterFilings b fs = bookAfter b (filings fs)
 
--- "the same part or the same refusal": an answer's refusal, 0 where the filing is accepted, and its part, 0 where it is
--- refused. The count is no part of it: "Only the count of filed families may differ."
-abbrev pub partOrRefusal : Answer → ℕ × ℤ
-partOrRefusal a = (refusalIn a, resultIn a 0)
+-- "the same part or the same refusal": the whole answer but for the count, which is put at 0. "Only the count of filed
+-- families may differ."
+abbrev pub countAside : Answer → Answer
+countAside (Refused r) = Refused r
+countAside (Filed p n) = Filed p 0
+countAside (Closed n) = Closed n
+countAside (Left m) = Left m
 
 -- what a filing gets where others went before it
-abbrev pub getsAfter : Book → List Filing → Filing → ℕ × ℤ
-getsAfter b before f = partOrRefusal (posted (afterFilings b before) (Call.File f) .answer)
+abbrev pub getsAfter : Book → List Filing → Filing → Answer
+getsAfter b before f = countAside (posted (afterFilings b before) (Call.File f) .answer)
 
 -- ---- the card's sentence
 
@@ -62,6 +65,15 @@ pub record SameInBoth (b : Book) (fs gs : List Filing) : Type 0 where
 
 abbrev pub FilingOrder : Book → List Filing → List Filing → Type 0
 FilingOrder b fs gs = Sized b → Reordered fs gs → NoTwoAlike fs → SameInBoth b fs gs
+
+-- The premises ask no more than the card: no order of a list is left out, and neither is a list for a filing more,
+-- where that names what none of the list names.
+pub record AsksNoMore : Type 0 where
+  pub orders : EveryOrder Filing
+  pub none : NoTwoAlike []
+  pub more :
+      (f : Filing) (fs : List Filing) → ((g : Filing) → Among g fs → familyOf f ≡ familyOf g → ⊥) → NoTwoAlike fs
+      → NoTwoAlike (f ∷ fs)
 
 -- ---- the reason
 

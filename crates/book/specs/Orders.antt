@@ -2,7 +2,7 @@
 use mathlib.Core.List.{List, [], _∷_, _++_}
 use mathlib.Core.Path.{_≡_}
 
--- x is among xs: what stands before it, and what after it
+-- x is among xs, at a place: what stands before it, and what after it
 pub record Among {A : Type 0} (x : A) (xs : List A) : Type 0 where
   pub before : List A
   pub after : List A

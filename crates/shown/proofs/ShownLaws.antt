@@ -21,6 +21,7 @@ use Rattle.book.specs.declared.answers.Answer.{Answer}
 use Rattle.book.specs.declared.ledger.Book.{Book}
 use Rattle.book.proofs.FreshSound.{fresh-sound, fresh-sized}
 use Rattle.book.proofs.SoundnessLaws.{sound-is, sound-lot}
+use Rattle.book.proofs.KeptSound.{sized-after}
 use Rattle.book.proofs.NeverUnsound.{stays, never-unsound}
 use Rattle.book.proofs.Reconciliation.{demand3}
 use Rattle.book.proofs.StrikeOut.{strike-out}
@@ -193,10 +194,7 @@ filed-between input before after fs e =
 pub filed-in-any-order : (input other : List ℕ) → FiledInAnyOrder input other
 filed-in-any-order input other before after fs gs e d r n =
     let start = D.bookAfter freshBook before in
-    let o = filing-order start fs gs (stays before freshBook fresh-sized fresh-sound .0) r n in
-    let same : finalBook input ≡ finalBook other =
+    let same = filing-order start fs gs (sized-after freshBook before fresh-sized) r n in
     filed-between input before after fs e
-    ∙ ap (λ (b : Book). D.bookAfter b after) (o .books)
+    ∙ ap (λ (b : Book). D.bookAfter b after) (same .books)
     ∙ sym (filed-between other before after gs d)
-    in
-    record { book = same; list = ap listing same }

@@ -1,5 +1,5 @@
--- Five claims about every input, any bytes whatever, of the terminal that text/specs/Program defines. src/claims.rt
--- holds each to its proof.
+-- Claims about every input, any bytes whatever, of the terminal that text/specs/Program defines (the fifth about every
+-- two inputs). src/claims.rt holds each to its proof.
 use Prim.Native.Nat.{ℕ, suc, _+_, _<_, _≤_}
 use mathlib.Core.Bool.{true}
 use mathlib.Core.List.{List, [], _∷_, _++_, map}
@@ -160,13 +160,9 @@ pub record JournalKept (input : List ℕ) : Type 0 where
       × Every Accepts (answers (p ++ lineFeed ∷ []))
 
 -- 5, filing order: where the calls of two inputs differ only in the order of some filings, no two of which name the
--- same maker, set and number, the books are equal, and so is what is listed.
-pub record SameListing (input other : List ℕ) : Type 0 where
-  pub book : finalBook input ≡ finalBook other
-  pub list : listing (finalBook input) ≡ listing (finalBook other)
-
+-- same maker, set and number, the books are equal, and with them what is listed.
 abbrev pub FiledInAnyOrder : List ℕ → List ℕ → Type 0
 FiledInAnyOrder input other =
     (before after : List Call) (fs gs : List Filing)
     → calls input ≡ before ++ filings fs ++ after → calls other ≡ before ++ filings gs ++ after
-    → Reordered fs gs → NoTwoAlike fs → SameListing input other
+    → Reordered fs gs → NoTwoAlike fs → finalBook input ≡ finalBook other

@@ -34,7 +34,7 @@ pub fn journal_kept() -> bool
     true
 }
 
-// The order of filings does not reach the listing.
+// The order of filings does not reach the book, nor the listing.
 pub fn filed_in_any_order() -> bool
     ensures { λ r. ⌜ (r ≡ true) × ((input other : List ℕ) → FiledInAnyOrder input other) ⌝ }
 {

@@ -5,8 +5,8 @@
 mod common;
 
 use common::*;
-use second::book::Book;
-use second::figuring::{Figures, Part};
+use second::book::{Book, CELLS};
+use second::figuring::{standard, Figures, Part};
 use second::generate::rng::Rng;
 use second::generate::{session, Kind};
 use second::listing::list;
@@ -67,41 +67,63 @@ fn calls(input: &[u8]) -> Vec<Call> {
     calls
 }
 
-/// A sound book in the middle of a year.
+/// A book in the middle of a year; once in ten, one that is not sound.
 fn begun(rng: &mut Rng) -> Book {
     let mut book = Book::fresh();
     let calls = calls(&session(Kind::Years, rng.draw(), 600));
     for call in &calls[..rng.index(calls.len())] {
         let _ = post(&mut book, call);
     }
+    if rng.once_in(10) {
+        book.open_year = 2013;
+    }
     book
 }
 
-/// A figure within 1 to `most`, or just outside, or any.
-fn figure(rng: &mut Rng, most: u64) -> u64 {
-    match rng.below(24) {
-        0 => 0,
-        1 => most + 1,
-        2 => rng.draw(),
-        3 => most,
+/// A figure within 1 to `most`; of an odd filing also just outside, or any.
+fn figure(rng: &mut Rng, most: u64, odd: bool) -> u64 {
+    match rng.below(if odd { 6 } else { 24 }) {
+        0 => most,
+        1 if odd => 0,
+        2 if odd => most + 1,
+        3 if odd => rng.draw(),
         _ => rng.between(1, most),
     }
 }
 
-fn any_filing(rng: &mut Rng, year: u64) -> Filing {
-    let outside = rng.once_in(8);
+/// Any filing, one in six with something outside its limits. A `narrow` one
+/// names maker 0 in set 2 or 3, so that many of them fill these cells.
+fn any_filing(rng: &mut Rng, year: u64, narrow: bool) -> Filing {
+    let odd = rng.once_in(6);
+    let usage = rng.below(if odd { 3 } else { 2 });
+    let level = match rng.below(8) {
+        0 => standard(2, usage, year).map_or(1, u64::from),
+        _ => figure(rng, 1_200, odd),
+    };
     Filing {
-        maker: rng.below(if outside { 10 } else { 8 }),
+        maker: if narrow {
+            0
+        } else {
+            rng.below(if odd { 10 } else { 8 })
+        },
         // A set above 3 may have the cell number of another maker's cell.
-        set: rng.below(if outside { 9 } else { 4 }),
-        year,
-        usage: rng.below(if outside { 3 } else { 2 }),
-        family: rng.below(if outside { 70 } else { 64 }),
+        set: match (narrow, odd) {
+            (true, _) => rng.between(2, 3),
+            (false, true) => rng.below(9),
+            (false, false) => rng.below(4),
+        },
+        year: if odd && rng.once_in(4) {
+            rng.draw()
+        } else {
+            year
+        },
+        usage,
+        family: rng.below(if odd { 70 } else { 64 }),
         figures: Figures {
-            fcl: figure(rng, 1_200),
-            cf: figure(rng, 100_000),
-            volume: figure(rng, 100_000),
-            life: figure(rng, 500),
+            fcl: level,
+            cf: figure(rng, 100_000, odd),
+            volume: figure(rng, 100_000, odd),
+            life: figure(rng, 500, odd),
         },
     }
 }
@@ -115,21 +137,23 @@ fn listed(book: &Book) -> String {
 #[test]
 fn two_orders_of_any_filings_give_one_book() {
     let mut rng = Rng::new(1);
-    let mut reached = BTreeSet::new();
+    let (mut reached, mut most) = (BTreeSet::new(), 0);
     for _ in 0..150 {
         let book = begun(&mut rng);
-        let year = match rng.below(12) {
-            0 => book.open_year + 1,
-            1 => rng.draw(),
-            _ => book.open_year,
+        let (year, narrow) = match rng.below(12) {
+            0 => (book.open_year + 1, false),
+            1 => (rng.draw(), false),
+            draw => (book.open_year, draw < 6),
         };
-        let filings = (0..rng.below(400)).map(|_| any_filing(&mut rng, year));
+        let filings = (0..rng.below(400)).map(|_| any_filing(&mut rng, year, narrow));
         let mut filings = no_two_alike(filings.collect::<Vec<_>>());
         let (after, gets) = put(&book, &filings);
-        reached.extend(gets.values().map(|get| match get {
-            Ok(part) => part.0.signum() as i8,
-            Err(refusal) => refusal.number() as i8,
-        }));
+        let kinds = gets.values().map(|get| match get {
+            Ok(part) => Ok(part.0.signum()),
+            Err(refusal) => Err(refusal.number()),
+        });
+        reached.extend(kinds);
+        most = most.max((0..CELLS).map(|cell| after.filed(cell)).max().unwrap_or(0));
         for filing in &filings {
             let (_, alone) = put(&book, std::slice::from_ref(filing));
             assert_eq!(gets[&name(filing)], alone[&name(filing)]);
@@ -144,10 +168,12 @@ fn two_orders_of_any_filings_give_one_book() {
             assert_eq!(listed(&other), listed(&after));
         }
     }
-    // Parts below 0 and above; every refusal of a filing on a sound book.
-    for wanted in [-1, 1, 3, 4, 5, 6, 7, 8, 9] {
-        assert!(reached.contains(&wanted), "{wanted} was never given");
+    // Parts below 0, of 0 and above; every refusal of a filing; full cells.
+    let wanted = [-1, 0, 1].map(Ok).into_iter().chain((2..=9).map(Err));
+    for wanted in wanted {
+        assert!(reached.contains(&wanted), "{wanted:?} was never given");
     }
+    assert!(most >= 50, "no cell had more than {most} families");
 }
 
 /// A session's calls with each year's filings first, no two of a year alike,
@@ -201,11 +227,8 @@ fn shown(years: &[(Vec<Filing>, Vec<Call>)]) -> (Vec<String>, Vec<String>) {
 fn shuffled_years_are_shown_alike() {
     for seed in 0..6 {
         let mut rng = Rng::new(seed);
-        let kind = if seed % 3 == 2 {
-            Kind::Mixed
-        } else {
-            Kind::Years
-        };
+        // `Single` files all 64 numbers of every cell.
+        let kind = [Kind::Years, Kind::Mixed, Kind::Single][seed as usize % 3];
         let mut years = by_year(&calls(&session(kind, seed, 6_000)));
         let first = shown(&years);
         assert!(first.1.iter().any(|line| line.starts_with("(lot ")));
@@ -246,7 +269,7 @@ fn the_count_goes_by_the_order() {
     assert_eq!(count([other, one]), [filed(-part, 1), filed(part, 2)]);
 }
 
-/// What the tests above would notice: two filings that name one family.
+/// Why no two may name one family: then the books differ, and this is noticed.
 #[test]
 fn two_filings_of_one_family_are_told_apart() {
     let (one, other) = (plain(5, 566), plain(5, 568));

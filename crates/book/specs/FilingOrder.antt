@@ -66,8 +66,8 @@ pub record SameInBoth (b : Book) (fs gs : List Filing) : Type 0 where
 abbrev pub FilingOrder : Book → List Filing → List Filing → Type 0
 FilingOrder b fs gs = Sized b → Reordered fs gs → NoTwoAlike fs → SameInBoth b fs gs
 
--- The premises ask no more than the card: no order of a list is left out, and neither is a list for a filing more,
--- where that names what none of the list names.
+-- The premises ask no more than the card: no order is left out, and any filing may be put before such a list, if it
+-- names what none of the list names.
 pub record AsksNoMore : Type 0 where
   pub orders : EveryOrder Filing
   pub none : NoTwoAlike []

@@ -1,13 +1,18 @@
 -- Filing order: two orders of the same filings make one book, and each filing gets in both what it gets alone.
-use mathlib.Core.List.{List, [], _∷_}
-use mathlib.Core.Path.{_≡_, refl, sym, _∙_, ap, subst}
-use Rattle.book.specs.Companions.{Sized}
+use mathlib.Core.List.{List, _∷_}
+use mathlib.Core.Path.{_≡_, refl, sym, _∙_, ap, ap₂, subst}
+use lib.IntN.{ℤ, natAbs}
+use Rattle.book.specs.Refusals.{resultIn, valuesIn}
 use Rattle.book.specs.Orders.{Among, without, Reordered}
-use Rattle.book.specs.FilingOrder.{familyOf, NoTwoAlike, filings, afterFilings, MadeBy, FilingOrder, AsksNoMore, EachAlone}
+use Rattle.book.specs.FilingOrder.{familyOf, NoTwoAlike, filings, afterFilings, countAside}
+use Rattle.book.specs.FilingOrder.{FilingOrder, SaysNoLess, MadeBy, EachAlone}
 use Rattle.book.specs.declared.ledger.Book.{Book}
 use Rattle.book.specs.declared.kinds.Filing.{Filing}
+use Rattle.book.specs.declared.answers.Answer.{Answer}
+use Rattle.book.specs.declared.answers.Answer.the-variants.{Refused, Filed, Closed, Left}
 use Rattle.book.proofs.KeptSound.{sized-after}
-use Rattle.book.proofs.AmongLaws.{none-among, Stands, is-first, in-rest, stands, in-left, both-without, back, every-order}
+use Rattle.book.proofs.AmongLaws.{none-among, Stands, is-first, in-rest, stands}
+use Rattle.book.proofs.AmongLaws.{in-left, both-without, back, every-order}
 use Rattle.book.proofs.FiledAlone.{gets-alone, made-by}
 use Rattle.book.proofs.OneBook.{one-book}
 
@@ -43,7 +48,7 @@ filing-order b fs gs z r n =
       answers = λ f p q. u .answers f p ∙ sym (v .answers f q);
     }
 
--- ---- what the premises ask
+-- ---- what the words say
 one-more :
     (f : Filing) (fs : List Filing) → ((g : Filing) → Among g fs → familyOf f ≡ familyOf g → ⊥) → NoTwoAlike fs
     → NoTwoAlike (f ∷ fs)
@@ -58,5 +63,25 @@ one-more f fs new n g h p q e = go (stands p)
     go (is-first d w) = new h (subst (Among h) w q) (sym (ap familyOf d) ∙ e)
     go (in-rest r w) = let s = subst (Among h) w q in rest r s (stands s)
 
-pub asks-no-more : AsksNoMore
-asks-no-more = record { orders = every-order Filing; none = λ f g p. absurd (none-among refl p); more = one-more }
+-- an answer of a filing with another count
+abbrev counted : Answer → ℤ → Answer
+counted (Refused r) z = Refused r
+counted (Filed p n) z = Filed p (natAbs z)
+counted (Closed n) z = Closed n
+counted (Left m) z = Left m
+
+rebuilt : (a : Answer) → counted (countAside a) (resultIn a 1) ≡ a
+unfolding valuesIn
+rebuilt (Refused r) = refl
+rebuilt (Filed p n) = refl
+rebuilt (Closed n) = refl
+rebuilt (Left m) = refl
+
+pub says-no-less : SaysNoLess
+says-no-less =
+    record {
+      orders = every-order Filing;
+      none = λ f g p. absurd (none-among refl p);
+      more = one-more;
+      aside = λ a c e k. sym (rebuilt a) ∙ ap₂ counted e k ∙ rebuilt c;
+    }

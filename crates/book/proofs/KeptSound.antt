@@ -24,5 +24,10 @@ pub keeps-sound : (b : Book) (c : Call) → Sized b → sound b ≡ true → sou
 keeps-sound b c z s =
     by-verdict b c (λ p. sound (p .book) ≡ true) (λ r. s) (λ t e. is-sound (done b c .book) (lawful b c t e .sound z))
 
+pub sound-after : (b : Book) (cs : List Call) → Sized b → sound b ≡ true → sound (bookAfter b cs) ≡ true
+unfolding bookAfter
+sound-after b [] z s = s
+sound-after b (c ∷ cs) z s = sound-after (posted b c .book) cs (keeps-sized b c z) (keeps-sound b c z s)
+
 pub keeps : (b : Book) (c : Call) → KeepsSound b c
 keeps b c z s = (keeps-sized b c z, keeps-sound b c z s)

@@ -13,16 +13,16 @@ use Rattle.book.specs.Refusals.{Row, numberOf, refusalIn, orElse, firstR
 use Rattle.book.specs.Postings.{freshBook}
 use Rattle.book.specs.Rules.{posted, ownRows, done}
 use Rattle.book.specs.Demand3.{bookAfter}
-use Rattle.book.specs.Companions.{Sized, NeverUnsound}
+use Rattle.book.specs.Companions.{NeverUnsound}
 use Rattle.book.specs.declared.ledger.Book.{Book}
 use Rattle.book.specs.declared.kinds.Call.{Call}
 use Rattle.book.specs.declared.answers.Refusal.{Refusal}
-use Rattle.book.specs.declared.answers.Verdict.the-variants.{Accepted, Refuse}
+use Rattle.book.specs.declared.answers.Verdict.the-variants.{Refuse}
 use Rattle.book.proofs.TableLaws.{by-rows, sound-head}
 use Rattle.book.proofs.RefusalLaws.{accepted-number}
 use Rattle.book.proofs.CallLaws.{lawful, noTwo, own-not-two}
 use Rattle.book.proofs.FreshSound.{fresh-sound, fresh-sized}
-use Rattle.book.proofs.KeptSound.{keeps}
+use Rattle.book.proofs.KeptSound.{sound-after}
 
 -- ---- refusal 2
 refuses-not-two :
@@ -47,16 +47,7 @@ never-two b c s =
     (λ r. refuses-not-two (ownRows b c) r (own-not-two b c))
     (λ t e n. omega (arith, accepted-number (done b c .answer) (lawful b c t e .answered)))
 
--- ---- lists of calls
--- a sound book whose lists have their lengths stays so
-pub stays :
-    (cs : List Call) (b : Book)
-    → Sized b → sound b ≡ true → Sized (bookAfter b cs) × (sound (bookAfter b cs) ≡ true)
-unfolding bookAfter
-stays [] b z s = (z, s)
-stays (c ∷ cs) b z s = let k = keeps b c z s in stays cs (posted b c .book) (k .0) (k .1)
-
 pub never-unsound : (cs : List Call) → NeverUnsound cs
 never-unsound cs =
-    let s = stays cs freshBook fresh-sized fresh-sound .1 in
+    let s = sound-after freshBook cs fresh-sized fresh-sound in
     record { staysSound = s; neverRefused = λ c. never-two (bookAfter freshBook cs) c s }

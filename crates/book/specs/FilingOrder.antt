@@ -11,6 +11,7 @@ use lib.ListN.{getD}
 use lib.IntN.{ℤ}
 use Rattle.book.specs.Sizes.{makers, sets, families}
 use Rattle.book.specs.Ledger.{cell, marked, partAt}
+use Rattle.book.specs.Refusals.{resultIn}
 use Rattle.book.specs.Postings.{partFor, withFamilies}
 use Rattle.book.specs.Rules.{posted}
 use Rattle.book.specs.Demand3.{isAccepted, bookAfter}
@@ -66,14 +67,16 @@ pub record SameInBoth (b : Book) (fs gs : List Filing) : Type 0 where
 abbrev pub FilingOrder : Book → List Filing → List Filing → Type 0
 FilingOrder b fs gs = Sized b → Reordered fs gs → NoTwoAlike fs → SameInBoth b fs gs
 
--- The premises ask no more than the card: no order is left out, and any filing may be put before such a list, if it
--- names what none of the list names.
-pub record AsksNoMore : Type 0 where
+-- These words say no less than the card's: no order is left out; any filing may be put before a list of no two alike,
+-- if it names what none of the list names; and an answer is given by what `countAside` leaves and its second result, a
+-- filing's count.
+pub record SaysNoLess : Type 0 where
   pub orders : EveryOrder Filing
   pub none : NoTwoAlike []
   pub more :
       (f : Filing) (fs : List Filing) → ((g : Filing) → Among g fs → familyOf f ≡ familyOf g → ⊥) → NoTwoAlike fs
       → NoTwoAlike (f ∷ fs)
+  pub aside : (a c : Answer) → countAside a ≡ countAside c → resultIn a 1 ≡ resultIn c 1 → a ≡ c
 
 -- ---- the reason
 

@@ -8,7 +8,7 @@ ghost use Rattle.book.specs.Rules.{CheckingOrder};
 ghost use Rattle.book.specs.Demand1.{Demand1};
 ghost use Rattle.book.specs.Demand3.{Demand3};
 ghost use Rattle.book.specs.Companions.{KeepsSound, NeverUnsound, Stays, StrikeOut};
-ghost use Rattle.book.specs.FilingOrder.{FilingOrder, EachAlone, AsksNoMore};
+ghost use Rattle.book.specs.FilingOrder.{FilingOrder, EachAlone, SaysNoLess};
 ghost use Rattle.book.specs.Marked.{MarkedFigures};
 ghost use Rattle.book.specs.EachAccount.{EachAccount};
 ghost use Rattle.book.specs.declared.ledger.Book.{Book};
@@ -92,9 +92,9 @@ pub fn each_alone() -> bool
     true
 }
 
-// What card 1's theorem asks is no more than the card does.
-pub fn asks_no_more() -> bool
-    ensures { λ r. ⌜ (r ≡ true) × AsksNoMore ⌝ }
+// The words of card 1's theorem say no less than the card's.
+pub fn says_no_less() -> bool
+    ensures { λ r. ⌜ (r ≡ true) × SaysNoLess ⌝ }
 {
     true
 }

@@ -22,7 +22,7 @@ use Rattle.book.specs.declared.ledger.Book.{Book}
 use Rattle.book.proofs.FreshSound.{fresh-sound, fresh-sized}
 use Rattle.book.proofs.SoundnessLaws.{sound-is, sound-lot}
 use Rattle.book.proofs.KeptSound.{sized-after}
-use Rattle.book.proofs.NeverUnsound.{stays, never-unsound}
+use Rattle.book.proofs.NeverUnsound.{never-unsound}
 use Rattle.book.proofs.Reconciliation.{demand3}
 use Rattle.book.proofs.StrikeOut.{strike-out}
 use Rattle.book.proofs.FilingOrder.{filing-order}
@@ -56,7 +56,7 @@ left-says :
 unfolding D.bookAfter
 left-says before c n e =
     subst (λ (a : Accounts). Leaves a c n) (accounts-are (before ++ c ∷ []))
-    (left-by (D.bookAfter freshBook before) c n (stays before freshBook fresh-sized fresh-sound .0) e (accountsOf (history freshBook (before ++ c ∷ [])))
+    (left-by (D.bookAfter freshBook before) c n (sized-after freshBook before fresh-sized) e (accountsOf (history freshBook (before ++ c ∷ [])))
     (λ k i. subst (λ (b : Book). Reconciled b (accountsOf (history freshBook (before ++ c ∷ []))) k) (book-append before (c ∷ []) freshBook) (demand3 (before ++ c ∷ []) .reconciled k i)))
 
 module _ (input : List ℕ) where

@@ -103,10 +103,8 @@ Brings a (short k n) (Call.Retire p) = ⊥
 
 -- one of some postings has p
 pub record One (p : Call → Type 0) (ps : List Call) : Type 0 where
-  pub before : List Call
   pub posting : Call
-  pub after : List Call
-  pub here : ps ≡ before ++ posting ∷ after
+  pub among : Among posting ps
   pub has : p posting
 
 -- items in rising order from a place on, each once

@@ -11,7 +11,7 @@ use lib.ListN.{getD, List·getD-eq-default}
 use Rattle.figuring.specs.Years.{firstYear, lastYear}
 use Rattle.figuring.specs.Parts.{standardLeast}
 use Rattle.figuring.specs.Standards.{standardFor, vocational, tractor, gramsOf}
-use Rattle.figuring.specs.Grid.{gridYears, gridColumns, gridRow, gridFrom, printedGrid, gridEntry}
+use Rattle.figuring.specs.Grid.{Grid, gridYears, gridColumns, gridRow, gridFrom, printedGrid}
 use Rattle.figuring.specs.Grid.{rowOf, columnOf, standardOf}
 use Rattle.figuring.specs.declared.standards.Standard.{Standard}
 use Rattle.figuring.specs.declared.standards.Standard.the-variants.{Given, Absent}
@@ -57,12 +57,12 @@ same-standard s u y = go (ltb lastYear y) refl
 
 -- ---- what is read at a row and a column
 pub standard-read :
-    (s u y : ℕ) {i j : ℕ}
+    (s u y : ℕ) {g : Grid} {i j : ℕ}
     → firstYear ≤ y
+    → g ≡ printedGrid
     → i ≡ rowOf y
     → j ≡ columnOf s u
-    → standardOf (gridEntry printedGrid i j) ≡ standardFor s u y
-unfolding gridEntry
-standard-read s u y l p q =
-    ap standardOf (rw (p, q, row-read y l) (in-column s u (min y lastYear)) ∙ ap gramsOf (same-standard s u y))
+    → standardOf (getD (getD g i []) j 0) ≡ standardFor s u y
+standard-read s u y l h p q =
+    ap standardOf (rw (h, p, q, row-read y l) (in-column s u (min y lastYear)) ∙ ap gramsOf (same-standard s u y))
     ∙ back s u y

@@ -1,11 +1,10 @@
--- Card 2: the standards stand in the source as "a grid of 24 years by 6 columns", 0 for none.
--- What a caller is promised is `standardFor` and nothing of this: here is said what that grid has to be, and where a
--- standard is read in it.
+-- Card 2: the standards read from "a grid of 24 years by 6 columns", 0 for none.
+-- `printedGrid` is what the grid in the source is promised to be. Where a standard is read in it, by row and column, is
+-- said for functions of this layer alone: their caller is promised `standardFor`.
 use Prim.Native.Nat.{ℕ, zero, suc, _-_, min}
 use mathlib.Core.Bool.{cond}
 use mathlib.Core.List.{List, [], _∷_}
 use lib.Dec.{eqb}
-use lib.ListN.{getD}
 use Rattle.figuring.specs.Standards.{standardFor, gramsOf}
 use Rattle.figuring.specs.Years.{firstYear, lastYear}
 use Rattle.figuring.specs.declared.standards.Standard.{Standard}
@@ -40,10 +39,6 @@ gridFrom y (suc n) = gridRow y ∷ gridFrom (suc y) n
 -- The printed standards of 2014 to 2037 as a grid.
 unfoldable pub printedGrid : Grid
 printedGrid = gridFrom firstYear gridYears
-
--- What stands in a row and a column, both counted from 0.
-unfoldable pub gridEntry : Grid → ℕ → ℕ → ℕ
-gridEntry g i j = getD (getD g i []) j 0
 
 -- The row of a year from 2014 on, counted from 0; every later year is read in the last.
 abbrev pub rowOf : ℕ → ℕ

@@ -1,18 +1,18 @@
 // Card 2: the standards as the service desk reads them, off a grid.
 ghost use mathlib.Core.Path.{_≡_};
 ghost use Prim.Native.Nat.{_≤_, _<_};
-ghost use Rattle.figuring.specs.Grid.{gridYears, gridColumns, printedGrid, gridEntry, rowOf, columnOf};
+ghost use Rattle.figuring.specs.Grid.{gridYears, printedGrid, rowOf, columnOf};
 ghost use Rattle.figuring.specs.Years.{firstYear};
 use crate::years::FIRST_YEAR;
 use crate::years::LAST_YEAR;
 
-pub(crate) const YEARS: usize = 24;
+const YEARS: usize = 24;
 
 pub(crate) const COLUMNS: usize = 6;
 
 // The standards of 2014 to 2037 in g/hp-hr, 0 for none: a line a year, its year beside it. The columns are set 0,
 // set 1, medium vocational, heavy vocational, medium tractor, heavy tractor.
-pub const STANDARDS: [[u16; COLUMNS]; YEARS] = [
+const STANDARDS: [[u16; COLUMNS]; YEARS] = [
     // 0    1    2    3    2    3      set
     // 0    0    0    0    1    1      use
     [0, 600, 600, 567, 502, 475], // 2014
@@ -41,12 +41,11 @@ pub const STANDARDS: [[u16; COLUMNS]; YEARS] = [
     [627, 552, 535, 503, 457, 432], // 2037
 ];
 
-// What stands in a row and a column of the grid.
-pub(crate) fn entry_at(row: usize, column: usize) -> u16
-    requires { ⌜ (row < gridYears) × (column < gridColumns) ⌝ }
-    ensures { λ r. ⌜ r ≡ gridEntry printedGrid row column ⌝ }
+// The grid, which is the printed one.
+pub fn printed_grid() -> [[u16; COLUMNS]; YEARS]
+    ensures { λ r. ⌜ r ≡ printedGrid ⌝ }
 {
-    STANDARDS[row][column]
+    STANDARDS
 }
 
 // The row of a year; every later year is read in the last.

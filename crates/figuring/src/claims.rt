@@ -1,14 +1,13 @@
 // The claims of the figuring layer, each a function whose contract is the statement of specs/ for all its arguments.
 // A theorem that goes missing or is weakened leaves its function here unproved, so the gate holds it.
-ghost use Prim.Native.Nat.{ℕ};
 ghost use mathlib.Core.Bool.{true};
 ghost use mathlib.Core.Path.{_≡_};
 ghost use Rattle.figuring.specs.Marked.{FiguringMarked};
-ghost use Rattle.figuring.specs.Netting.{IsNearest, nearest};
+ghost use Rattle.figuring.specs.Netting.{RoundsToNearest};
 
-// A close rounds to the nearest Mg.
+// A sum of parts comes to its nearest Mg, and it has only one.
 pub fn rounds_to_nearest() -> bool
-    ensures { λ r. ⌜ (r ≡ true) × ((n : ℕ) → IsNearest n (nearest n)) ⌝ }
+    ensures { λ r. ⌜ (r ≡ true) × RoundsToNearest ⌝ }
 {
     true
 }

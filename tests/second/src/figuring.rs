@@ -1,5 +1,6 @@
 //! Standards, a family's part, rounding, and the life of lots and shortages.
 
+use std::cmp::Ordering;
 use std::fmt;
 
 pub const FIRST_YEAR: u64 = 2014;
@@ -14,7 +15,7 @@ pub const MAX_VOLUME: u64 = 100_000;
 pub const MAX_LIFE: u64 = 500;
 
 /// Part units in one Mg.
-const PARTS_IN_A_MG: u128 = 10_000_000;
+const PARTS_IN_A_MG: i128 = 10_000_000;
 
 /// Credits of one family, signed, in units of 10^-7 Mg.
 #[derive(Clone, Copy, Debug, Default, PartialEq, Eq, PartialOrd, Ord)]
@@ -95,14 +96,15 @@ pub fn part(standard: u16, figures: &Figures) -> Option<Part> {
     ))
 }
 
-/// A sum of parts rounded to the nearest Mg, a half away from zero; signed.
+/// A sum of parts rounded to the nearest Mg, signed; an exact half goes to the
+/// even one of the two Mg it lies between.
 pub fn rounded(sum: i128) -> i128 {
-    let mg = (sum.unsigned_abs() + PARTS_IN_A_MG / 2) / PARTS_IN_A_MG;
-    // |sum| is at most 2^127, so a ten-millionth of it fits.
-    if sum < 0 {
-        -(mg as i128)
-    } else {
-        mg as i128
+    let below = sum.div_euclid(PARTS_IN_A_MG);
+    let rest = sum.rem_euclid(PARTS_IN_A_MG);
+    match (2 * rest).cmp(&PARTS_IN_A_MG) {
+        Ordering::Less => below,
+        Ordering::Equal => below + below.rem_euclid(2),
+        Ordering::Greater => below + 1,
     }
 }
 

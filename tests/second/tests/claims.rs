@@ -105,8 +105,8 @@ fn an_accepted_call_outside_the_accounts_is_noticed() {
     }
 }
 
-/// Sums of the cells at each close, reduced to what lies beyond whole Mg,
-/// counted.
+/// Sums of the cells at each close, reduced to what lies beyond whole pairs of
+/// Mg, so that odd and even are told apart; counted.
 fn remainders_at_closes(input: &[u8]) -> BTreeMap<i64, u64> {
     let mut book = Book::fresh();
     let mut seen = BTreeMap::new();
@@ -118,7 +118,7 @@ fn remainders_at_closes(input: &[u8]) -> BTreeMap<i64, u64> {
         if post(&mut book, &call).is_ok() && matches!(call, Call::Close { .. }) {
             for cell in parts {
                 let sum: i64 = cell.iter().map(|part| part.0).sum();
-                *seen.entry(sum % 10_000_000).or_default() += 1;
+                *seen.entry(sum % 20_000_000).or_default() += 1;
             }
         }
         Ok(())
@@ -136,9 +136,12 @@ fn years_close_on_halves_and_beside_them() {
             *seen.entry(remainder).or_insert(0) += times;
         }
     }
-    for half in [5_000_000, -5_000_000] {
-        for beside in -1..=1 {
-            assert!(seen.contains_key(&(half + beside)), "{half} {beside}");
+    // Between an even Mg and the next, between an odd one and the next, above
+    // zero and below.
+    for half in [5_000_000, 15_000_000, -5_000_000, -15_000_000] {
+        for (beside, least) in [(-1, 5), (0, 20), (1, 5)] {
+            let times = seen.get(&(half + beside)).copied().unwrap_or(0);
+            assert!(times >= least, "{half} {beside}: {times}");
         }
     }
 }

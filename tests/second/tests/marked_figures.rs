@@ -84,11 +84,21 @@ fn p3_and_p4_the_two_parts() {
 }
 
 #[test]
-fn p5_and_p6_halves_round_away_from_zero() {
-    assert_eq!(rounded(5_000_000), 1);
-    assert_eq!(rounded(4_999_999), 0);
-    assert_eq!(rounded(-5_000_000), -1);
-    assert_eq!(rounded(-4_999_999), 0);
+fn p5_and_p6_halves_round_to_the_even_mg() {
+    for (sum, mg) in [
+        (4_999_999, 0),
+        (5_000_000, 0),
+        (5_000_001, 1),
+        (14_999_999, 1),
+        (15_000_000, 2),
+        (15_000_001, 2),
+        (24_999_999, 2),
+        (25_000_000, 2),
+        (25_000_001, 3),
+    ] {
+        assert_eq!(rounded(sum), mg, "{sum}");
+        assert_eq!(rounded(-sum), -mg, "-{sum}");
+    }
 }
 
 #[test]

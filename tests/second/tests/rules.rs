@@ -9,14 +9,21 @@ use second::figuring::{
 };
 
 #[test]
-fn halves_of_any_size_round_away_from_zero() {
-    for whole in [0, 1, 2, 9_999_999_999, 1 << 80] {
+fn halves_of_any_size_round_to_the_even_mg() {
+    for (whole, even) in [
+        (0, 0),
+        (1, 2),
+        (2, 2),
+        (3, 4),
+        (9_999_999_999, 10_000_000_000),
+        (1 << 80, 1 << 80),
+    ] {
         let sum = whole * 10_000_000;
         assert_eq!(rounded(sum + 4_999_999), whole);
-        assert_eq!(rounded(sum + 5_000_000), whole + 1);
+        assert_eq!(rounded(sum + 5_000_000), even);
         assert_eq!(rounded(sum + 5_000_001), whole + 1);
         assert_eq!(rounded(-sum - 4_999_999), -whole);
-        assert_eq!(rounded(-sum - 5_000_000), -whole - 1);
+        assert_eq!(rounded(-sum - 5_000_000), -even);
         assert_eq!(rounded(-sum - 5_000_001), -whole - 1);
     }
     assert_eq!(
@@ -27,20 +34,29 @@ fn halves_of_any_size_round_away_from_zero() {
 
 #[test]
 fn halves_at_a_close() {
-    // 5,000,000 and one part unit less, on both sides of the standard 567.
-    for (fcl, mg, short) in [(566, (1, 0), 0), (568, (0, 1), 1)] {
-        let mut book = Book::fresh();
-        file(&mut book, 0, fcl, 50_000, 100).expect("accepted");
-        assert_eq!(close(&mut book), closed(short));
-        let found = (lot(&book, 0, 3, 2014), shortage(&book, 0, 3, 2014));
-        assert_eq!(found, mg);
-    }
-    for (fcl, back) in [(566, 568), (568, 566)] {
-        let mut book = Book::fresh();
-        file(&mut book, 0, fcl, 50_000, 100).expect("accepted");
-        file(&mut book, 1, back, 1, 1).expect("accepted");
-        assert_eq!(close(&mut book), closed(0));
-        assert_eq!(lot(&book, 0, 3, 2014) + shortage(&book, 0, 3, 2014), 0);
+    // A volume of 100 is half a Mg. Halves and one part unit beside them, on
+    // both sides of the standard 567, with the Mg they give.
+    for (volume, beside, mg) in [
+        (100, 0, 0),
+        (100, -1, 0),
+        (100, 1, 1),
+        (300, 0, 2),
+        (300, -1, 1),
+        (300, 1, 2),
+        (500, 0, 2),
+        (500, -1, 2),
+        (500, 1, 3),
+    ] {
+        for sign in [1, -1] {
+            let mut book = Book::fresh();
+            file(&mut book, 0, (567 - sign) as u64, 50_000, volume).expect("accepted");
+            let level = (567 - sign * beside) as u64;
+            file(&mut book, 1, level, 1, 1).expect("accepted");
+            let short = sign < 0 && mg > 0;
+            assert_eq!(close(&mut book), closed(u64::from(short)));
+            let found = (lot(&book, 0, 3, 2014), shortage(&book, 0, 3, 2014));
+            assert_eq!(found, if short { (0, mg) } else { (mg, 0) });
+        }
     }
 }
 

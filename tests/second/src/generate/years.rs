@@ -197,8 +197,8 @@ impl Script {
         years_above_zero(&self.book.shortages[cell], |y| is_open(open_year, y))
     }
 
-    /// Files two more families so that a cell's sum lies at or one unit
-    /// beside a half.
+    /// Files two more families so that a cell's sum lies at a half, after an
+    /// even Mg or after an odd one, or one unit beside it.
     pub(super) fn land_on_a_half(&mut self) {
         let cell_named = self.rng.index(CELLS);
         let (maker, set) = names(cell_named);
@@ -207,13 +207,9 @@ impl Script {
             return;
         };
         let sum: i64 = self.book.parts[cell_named].iter().map(|part| part.0).sum();
-        let beside = self.rng.below(3) as i64 - 1;
-        let half = if self.rng.once_in(2) {
-            5_000_000
-        } else {
-            -5_000_000
-        };
-        let missing = half + beside - sum % 10_000_000;
+        let beside = [-1, 0, 0, 1][self.rng.index(4)];
+        let half = [5_000_000, 15_000_000, -5_000_000, -15_000_000][self.rng.index(4)];
+        let missing = half + beside - sum % 20_000_000;
         let size = missing.unsigned_abs();
         let level = i64::from(standard) - missing.signum();
         for (cf, volume) in [(100_000, size / 100_000), (size % 100_000, 1)] {

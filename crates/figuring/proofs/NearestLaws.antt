@@ -1,5 +1,4 @@
--- The nearest Mg. `nearest` rounds a size; what it gives is shown to be nearest above zero, and a sum below zero is the
--- mirror of one above.
+-- The nearest Mg to a sum. Above zero it is what `nearest` gives; a sum below zero is the mirror of one above.
 use Prim.Native.Nat.{ℕ, zero, suc, _+_, _*_, _-_, _/_, _%_, _<_, _≤_}
 use mathlib.Core.Bool.{Bool, true, false, cond}
 use mathlib.Core.Path.{_≡_, refl, sym, _∙_, ap}
@@ -8,11 +7,10 @@ use borrow.Author.Tests.{ltb-true, ltb-false, eqb-true, eqb-false, lt-ltb, le-lt
 use lib.Dec.{ltb, eqb}
 use lib.IntN.{ℤ, pos, negsuc, natAbs, negℤ, _-ℤ_, _*ℤ_, negℤ-negℤ, negℤ-+ℤ}
 use Rattle.figuring.specs.Units.{partsPerMg}
-use Rattle.figuring.specs.Netting.{halfMg, nearest, surplus, shortage, netOf, mgOf, gap}
-use Rattle.figuring.specs.Netting.{IsNearest, RoundsToNearest}
+use Rattle.figuring.specs.Netting.{halfMg, nearest, distance, IsNearest}
 use Rattle.figuring.proofs.SignedLaws.{abs-neg}
 
--- ---- a size, by its rest beyond the whole Mg
+-- ---- `nearest`, by the rest beyond the whole Mg
 module _ (n : ℕ) where
   pub below-half : n % partsPerMg < halfMg → nearest n ≡ n / partsPerMg
   unfolding nearest
@@ -32,8 +30,8 @@ module _ (n : ℕ) where
     half-odd e = rw (h, e)
 
 -- ---- above zero
-gap-above : (n m : ℕ) → gap (pos n) (pos m) ≡ (n - m * partsPerMg) + (m * partsPerMg - n)
-gap-above n m = apart n (m * partsPerMg)
+distance-above : (n m : ℕ) → distance (pos n) (pos m) ≡ (n - m * partsPerMg) + (m * partsPerMg - n)
+distance-above n m = apart n (m * partsPerMg)
   where
     by-sign :
         (below : Bool) (a b : ℕ)
@@ -45,7 +43,7 @@ gap-above n m = apart n (m * partsPerMg)
     apart a zero = omega arith
     apart a (suc b) = by-sign (ltb a (suc b)) a (suc b) refl
 
-near : (n : ℕ) → IsNearest (pos n) (pos (nearest n))
+pub near : (n : ℕ) → IsNearest (pos n) (pos (nearest n))
 near n = go (ltb rest halfMg) (ltb halfMg rest) (eqb (whole % 2) 0) refl refl refl
   where
     whole : ℕ
@@ -60,33 +58,33 @@ near n = go (ltb rest halfMg) (ltb halfMg rest) (eqb (whole % 2) 0) refl refl re
         → IsNearest (pos n) (pos (nearest n))
     go true over even u o e =
         let h : rest < halfMg = ltb-true rest halfMg u in
-        let g = gap-above n whole in
-        rw (below-half n h) (record { within = omega (arith, g); even = λ k. omega (arith, g, k) })
+        let d = distance-above n whole in
+        rw (below-half n h) (record { within = omega (arith, d); even = λ k. omega (arith, d, k) })
     go false true even u o e =
         let h : halfMg < rest = ltb-true halfMg rest o in
-        let g = gap-above n (whole + 1) in
-        rw (above-half n h) (record { within = omega (arith, g); even = λ k. omega (arith, g, k) })
+        let d = distance-above n (whole + 1) in
+        rw (above-half n h) (record { within = omega (arith, d); even = λ k. omega (arith, d, k) })
     go false false true u o e =
         let h : rest ≡ halfMg = omega (arith, ltb-false rest halfMg u, ltb-false halfMg rest o) in
         let f : whole % 2 ≡ 0 = eqb-true (whole % 2) 0 e in
-        let g = gap-above n whole in
-        rw (half-even n h f) (record { within = omega (arith, g); even = λ k. f })
+        let d = distance-above n whole in
+        rw (half-even n h f) (record { within = omega (arith, d); even = λ k. f })
     go false false false u o e =
         let h : rest ≡ halfMg = omega (arith, ltb-false rest halfMg u, ltb-false halfMg rest o) in
         let f : whole % 2 ≡ 1 = omega (arith, eqb-false (whole % 2) 0 e) in
-        let g = gap-above n (whole + 1) in
-        rw (half-odd n h f) (record { within = omega (arith, g); even = λ k. omega (arith, f) })
+        let d = distance-above n (whole + 1) in
+        rw (half-odd n h f) (record { within = omega (arith, d); even = λ k. omega (arith, f) })
 
 pub nearest-most : (n : ℕ) → nearest n * partsPerMg ≤ n + halfMg
-nearest-most n = omega (arith, gap-above n (nearest n), near n .within)
+nearest-most n = omega (arith, distance-above n (nearest n), near n .within)
 
--- of two Mg the greater is not nearest as well: both would be just half a Mg away, next to one another, and even
+-- of two Mg the greater is not nearest as well: both would be exactly half a Mg away, next to one another, and even
 not-both : (n a b : ℕ) → a < b → IsNearest (pos n) (pos a) → IsNearest (pos n) (pos b) → ⊥
 not-both n a b l f g =
-    let p = gap-above n a in
-    let q = gap-above n b in
-    let x : gap (pos n) (pos a) ≡ halfMg = omega (arith, p, q, f .within, g .within) in
-    let y : gap (pos n) (pos b) ≡ halfMg = omega (arith, p, q, f .within, g .within) in
+    let p = distance-above n a in
+    let q = distance-above n b in
+    let x : distance (pos n) (pos a) ≡ halfMg = omega (arith, p, q, f .within, g .within) in
+    let y : distance (pos n) (pos b) ≡ halfMg = omega (arith, p, q, f .within, g .within) in
     let next : b ≡ a + 1 = omega (arith, p, q, x, y) in
     let even-a : a % 2 ≡ 0 = f .even x in
     let even-b : b % 2 ≡ 0 = g .even y in
@@ -118,43 +116,26 @@ mirror-mg (pos zero) = refl
 mirror-mg (pos (suc m)) = refl
 mirror-mg (negsuc m) = sym (negℤ-negℤ (pos (suc m * partsPerMg)))
 
-mirror-gap : (z m : ℤ) → gap (negℤ z) (negℤ m) ≡ gap z m
-mirror-gap z m =
+mirror-distance : (z m : ℤ) → distance (negℤ z) (negℤ m) ≡ distance z m
+mirror-distance z m =
     ap (λ (x : ℤ). natAbs (negℤ z -ℤ x)) (mirror-mg m)
     ∙ ap natAbs (sym (negℤ-+ℤ z (negℤ (m *ℤ pos partsPerMg))))
     ∙ abs-neg (z -ℤ m *ℤ pos partsPerMg)
 
-mirror : (z m : ℤ) → IsNearest z m → IsNearest (negℤ z) (negℤ m)
+pub mirror : (z m : ℤ) → IsNearest z m → IsNearest (negℤ z) (negℤ m)
 mirror z m f =
     record {
-      within = rw (mirror-gap z m) (f .within);
-      even = λ h. abs-even (f .even (sym (mirror-gap z m) ∙ h));
+      within = rw (mirror-distance z m) (f .within);
+      even = λ h. abs-even (f .even (sym (mirror-distance z m) ∙ h));
     }
   where
     abs-even : natAbs m % 2 ≡ 0 → natAbs (negℤ m) % 2 ≡ 0
     abs-even e = rw (abs-neg m) e
 
 -- ---- any sum
-mg-surplus : (m : ℕ) → mgOf (surplus m) ≡ pos m
-mg-surplus zero = refl
-mg-surplus (suc m) = refl
-
-mg-shortage : (m : ℕ) → mgOf (shortage m) ≡ negℤ (pos m)
-mg-shortage zero = refl
-mg-shortage (suc m) = refl
-
-is-nearest : (sum : ℤ) → IsNearest sum (mgOf (netOf sum))
-unfolding netOf
-is-nearest (pos n) = rw (mg-surplus (nearest n)) (near n)
-is-nearest (negsuc n) =
-    rw (mg-shortage (nearest (suc n))) (mirror (pos (suc n)) (pos (nearest (suc n))) (near (suc n)))
-
-only-one : (sum m m′ : ℤ) → IsNearest sum m → IsNearest sum m′ → m ≡ m′
+pub only-one : (sum m m′ : ℤ) → IsNearest sum m → IsNearest sum m′ → m ≡ m′
 only-one (pos n) m m′ f g = only-above n m m′ f g
 only-one (negsuc n) m m′ f g =
     sym (negℤ-negℤ m)
     ∙ ap negℤ (only-above (suc n) (negℤ m) (negℤ m′) (mirror (negsuc n) m f) (mirror (negsuc n) m′ g))
     ∙ negℤ-negℤ m′
-
-pub rounds-to-nearest : RoundsToNearest
-rounds-to-nearest = record { is-nearest = is-nearest; only-one = only-one }

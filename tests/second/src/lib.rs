@@ -1,5 +1,6 @@
 //! A second implementation of the CO2 credit book (40 CFR 1036), written
-//! from document 01 alone so that another one can be held against it.
+//! from the words of document 01 and the cards so that another one can be held
+//! against it.
 //!
 //! `figuring`, `book` and `postings` are the rules; `text` and `listing` the
 //! terminal; `accounts` and `audit` the claims about a whole list of calls;

@@ -10,7 +10,6 @@ use second::figuring::{Mg, Part};
 use second::generate::{session, Kind};
 use second::postings::{post, Call};
 use second::text::{parse, Lines};
-use std::collections::BTreeMap;
 use std::convert::Infallible;
 
 fn call(line: &str) -> Call {
@@ -105,21 +104,17 @@ fn an_accepted_call_outside_the_accounts_is_noticed() {
     }
 }
 
-/// Sums of the cells at each close, reduced to what lies beyond whole pairs of
-/// Mg, so that odd and even are told apart; counted.
-fn remainders_at_closes(input: &[u8]) -> BTreeMap<i64, u64> {
+/// The sums of the cells at each close.
+fn sums_at_closes(input: &[u8]) -> Vec<i64> {
     let mut book = Book::fresh();
-    let mut seen = BTreeMap::new();
+    let mut seen = Vec::new();
     let done: Result<(), Infallible> = Lines::default().feed(input, |line| {
         let Some(call) = parse(line) else {
             return Ok(());
         };
         let parts = book.parts;
         if post(&mut book, &call).is_ok() && matches!(call, Call::Close { .. }) {
-            for cell in parts {
-                let sum: i64 = cell.iter().map(|part| part.0).sum();
-                *seen.entry(sum % 20_000_000).or_default() += 1;
-            }
+            seen.extend(parts.map(|cell| cell.iter().map(|part| part.0).sum::<i64>()));
         }
         Ok(())
     });
@@ -128,20 +123,25 @@ fn remainders_at_closes(input: &[u8]) -> BTreeMap<i64, u64> {
 }
 
 #[test]
-fn years_close_on_halves_and_beside_them() {
-    let mut seen = BTreeMap::new();
-    for seed in 0..5 {
-        let input = session(Kind::Years, seed, Kind::Years.usual_lines());
-        for (remainder, times) in remainders_at_closes(&input) {
-            *seen.entry(remainder).or_insert(0) += times;
-        }
-    }
-    // Between an even Mg and the next, between an odd one and the next, above
-    // zero and below.
-    for half in [5_000_000, 15_000_000, -5_000_000, -15_000_000] {
-        for (beside, least) in [(-1, 5), (0, 20), (1, 5)] {
-            let times = seen.get(&(half + beside)).copied().unwrap_or(0);
-            assert!(times >= least, "{half} {beside}: {times}");
+fn sessions_close_on_halves_and_beside_them() {
+    for kind in [Kind::Years, Kind::Hostile] {
+        let sums: Vec<i64> = (0..5)
+            .flat_map(|seed| sums_at_closes(&session(kind, seed, kind.usual_lines())))
+            .collect();
+        // After an even Mg and after an odd one, above zero and below.
+        for half in [5_000_000, 15_000_000, -5_000_000, -15_000_000] {
+            let near = |beside| {
+                sums.iter()
+                    .filter(|&sum| sum % 20_000_000 == half + beside)
+                    .count()
+            };
+            let whole = sums.iter().filter(|&&sum| sum == half).count();
+            let found = [near(-1), near(0), near(1), whole];
+            let common = found
+                .iter()
+                .zip([8, 20, 8, 4])
+                .all(|(&n, least)| n >= least);
+            assert!(common, "{kind:?} {half}: {found:?}");
         }
     }
 }

@@ -7,8 +7,10 @@ use crate::postings::{Application, Call, Filing, Retirement, Trade};
 
 /// 24 years and the time after the last.
 const SPANS: usize = YEARS + 1;
-/// Cells brought to a half before a year's close, at two lines each.
+/// Cells brought to a half before a year's close, at two lines each, now and
+/// then three.
 const HALVES: usize = 3;
+const TEN_TO_TEN: u64 = 10_000_000_000;
 
 impl Script {
     pub(super) fn years(&mut self, lines: usize) {
@@ -18,7 +20,7 @@ impl Script {
                 self.plausible_line();
             }
             for _ in 0..HALVES {
-                if self.lines + 3 <= end {
+                if self.lines + 4 <= end {
                     self.land_on_a_half();
                 }
             }
@@ -197,24 +199,38 @@ impl Script {
         years_above_zero(&self.book.shortages[cell], |y| is_open(open_year, y))
     }
 
-    /// Files two more families so that a cell's sum lies at a half, after an
-    /// even Mg or after an odd one, or one unit beside it.
+    /// Files up to three more families so that a cell's sum lies at a half or
+    /// one unit beside it: after an even Mg or after an odd one, above zero or
+    /// below. Once in three times the whole sum comes to 5 or 15 million.
     pub(super) fn land_on_a_half(&mut self) {
-        let cell_named = self.rng.index(CELLS);
+        let half: i64 = [5_000_000, 15_000_000, -5_000_000, -15_000_000][self.rng.index(4)];
+        let beside = [-1, 0, 0, 1][self.rng.index(4)];
+        let first = self.rng.index(CELLS);
+        let cell_named = (first..first + CELLS)
+            .map(|cell| cell % CELLS)
+            .find(|&cell| self.sum(cell).signum() != -half.signum())
+            .unwrap_or(first);
         let (maker, set) = names(cell_named);
         let year = self.book.open_year;
         let Some(standard) = standard(set, 0, year).filter(|_| year != ALL_CLOSED) else {
             return;
         };
-        let sum: i64 = self.book.parts[cell_named].iter().map(|part| part.0).sum();
-        let beside = [-1, 0, 0, 1][self.rng.index(4)];
-        let half = [5_000_000, 15_000_000, -5_000_000, -15_000_000][self.rng.index(4)];
-        let missing = half + beside - sum % 20_000_000;
+        let sum = self.sum(cell_named);
+        let over = if self.rng.once_in(3) && sum.abs() < 500 * TEN_TO_TEN as i64 {
+            sum
+        } else {
+            sum % 20_000_000
+        };
+        let missing = half + beside - over;
         let size = missing.unsigned_abs();
         let level = i64::from(standard) - missing.signum();
-        for (cf, volume) in [(100_000, size / 100_000), (size % 100_000, 1)] {
+        for (cf, volume, life) in [
+            (100_000, 100_000, size / TEN_TO_TEN),
+            (100_000, size % TEN_TO_TEN / 100_000, 1),
+            (size % 100_000, 1, 1),
+        ] {
             let free = (!self.book.marks[cell_named]).trailing_zeros();
-            if cf == 0 || volume == 0 || free == 64 {
+            if cf == 0 || volume == 0 || life == 0 || free == 64 {
                 continue;
             }
             self.say(Call::File(Filing {
@@ -227,10 +243,15 @@ impl Script {
                     fcl: level.max(1) as u64,
                     cf,
                     volume,
-                    life: 1,
+                    life,
                 },
             }));
         }
+    }
+
+    /// The sum of a cell's parts.
+    fn sum(&self, cell: usize) -> i64 {
+        self.book.parts[cell].iter().map(|part| part.0).sum()
     }
 }
 

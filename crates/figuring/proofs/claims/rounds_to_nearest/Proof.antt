@@ -1,6 +1,6 @@
 -- The theorem, cited.
 use mathlib.Core.Path.{refl}
-use Rattle.figuring.proofs.NearestLaws as laws
+use Rattle.figuring.proofs.NettingLaws as laws
 use Rattle.figuring.proofs.claims.rounds_to_nearest.Statement.{statement}
 use Rattle.figuring.proofs.claims.rounds_to_nearest.Tie as tie
 

@@ -1,6 +1,6 @@
 -- The nearest Mg to a sum. Above zero it is what `nearest` gives; a sum below zero is the mirror of one above.
 use Prim.Native.Nat.{ℕ, zero, suc, _+_, _*_, _-_, _/_, _%_, _<_, _≤_}
-use mathlib.Core.Bool.{Bool, true, false, cond}
+use mathlib.Core.Bool.{Bool, true, false}
 use mathlib.Core.Path.{_≡_, refl, sym, _∙_, ap}
 use native.Mathlib.Omega.{arith}
 use borrow.Author.Tests.{ltb-true, ltb-false, eqb-true, eqb-false, lt-ltb, le-ltb}
@@ -8,7 +8,7 @@ use lib.Dec.{ltb, eqb}
 use lib.IntN.{ℤ, pos, negsuc, natAbs, negℤ, _-ℤ_, _*ℤ_, negℤ-negℤ, negℤ-+ℤ}
 use Rattle.figuring.specs.Units.{partsPerMg}
 use Rattle.figuring.specs.Netting.{halfMg, nearest, distance, IsNearest}
-use Rattle.figuring.proofs.SignedLaws.{abs-neg}
+use Rattle.figuring.proofs.SignedLaws.{abs-neg, abs-apart}
 
 -- ---- `nearest`, by the rest beyond the whole Mg
 module _ (n : ℕ) where
@@ -31,17 +31,7 @@ module _ (n : ℕ) where
 
 -- ---- above zero
 distance-above : (n m : ℕ) → distance (pos n) (pos m) ≡ (n - m * partsPerMg) + (m * partsPerMg - n)
-distance-above n m = apart n (m * partsPerMg)
-  where
-    by-sign :
-        (below : Bool) (a b : ℕ)
-        → ltb a b ≡ below → natAbs (cond below (negsuc (b - suc a)) (pos (a - b))) ≡ (a - b) + (b - a)
-    by-sign true a b e = let l : a < b = ltb-true a b e in omega arith
-    by-sign false a b e = let l : b ≤ a = ltb-false a b e in omega arith
-
-    apart : (a b : ℕ) → natAbs (pos a -ℤ pos b) ≡ (a - b) + (b - a)
-    apart a zero = omega arith
-    apart a (suc b) = by-sign (ltb a (suc b)) a (suc b) refl
+distance-above n m = abs-apart n (m * partsPerMg)
 
 pub near : (n : ℕ) → IsNearest (pos n) (pos (nearest n))
 near n = go (ltb rest halfMg) (ltb halfMg rest) (eqb (whole % 2) 0) refl refl refl

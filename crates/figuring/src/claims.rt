@@ -5,7 +5,7 @@ ghost use mathlib.Core.Path.{_≡_};
 ghost use Rattle.figuring.specs.Marked.{FiguringMarked};
 ghost use Rattle.figuring.specs.Netting.{RoundsToNearest};
 
-// A sum of parts comes to its nearest Mg, and it has only one.
+// What a sum of parts earns, less its shortfall, is its nearest Mg; it has only one, and never both sides at once.
 pub fn rounds_to_nearest() -> bool
     ensures { λ r. ⌜ (r ≡ true) × RoundsToNearest ⌝ }
 {

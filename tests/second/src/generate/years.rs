@@ -2,7 +2,10 @@
 
 use super::Script;
 use crate::book::{cell, CELLS, FAMILIES, MAKERS, SETS};
-use crate::figuring::{is_live, is_open, standard, Figures, Mg, ALL_CLOSED, FIRST_YEAR, YEARS};
+use crate::figuring::{
+    is_live, is_open, standard, Figures, Mg, ALL_CLOSED, FIRST_YEAR, MAX_CF, MAX_LIFE, MAX_VOLUME,
+    YEARS,
+};
 use crate::postings::{Application, Call, Filing, Retirement, Trade};
 
 /// 24 years and the time after the last.
@@ -10,7 +13,9 @@ const SPANS: usize = YEARS + 1;
 /// Cells brought to a half before a year's close, at two lines each, now and
 /// then three.
 const HALVES: usize = 3;
-const TEN_TO_TEN: u64 = 10_000_000_000;
+/// The part of a family with the most CF and volume, one g/hp-hr beside its
+/// standard and a life of 1.
+const STEP: u64 = MAX_CF * MAX_VOLUME;
 
 impl Script {
     pub(super) fn years(&mut self, lines: usize) {
@@ -216,7 +221,7 @@ impl Script {
             return;
         };
         let sum = self.sum(cell_named);
-        let over = if self.rng.once_in(3) && sum.abs() < 500 * TEN_TO_TEN as i64 {
+        let over = if self.rng.once_in(3) && sum.unsigned_abs() < MAX_LIFE * STEP {
             sum
         } else {
             sum % 20_000_000
@@ -225,9 +230,9 @@ impl Script {
         let size = missing.unsigned_abs();
         let level = i64::from(standard) - missing.signum();
         for (cf, volume, life) in [
-            (100_000, 100_000, size / TEN_TO_TEN),
-            (100_000, size % TEN_TO_TEN / 100_000, 1),
-            (size % 100_000, 1, 1),
+            (MAX_CF, MAX_VOLUME, size / STEP),
+            (MAX_CF, size % STEP / MAX_CF, 1),
+            (size % MAX_CF, 1, 1),
         ] {
             let free = (!self.book.marks[cell_named]).trailing_zeros();
             if cf == 0 || volume == 0 || life == 0 || free == 64 {

@@ -8,6 +8,7 @@ use native.Mathlib.Decide.{ℕ-discrete}
 use lib.ListN.{length, length-replicate}
 use lib.IntN.{pos, natAbs}
 use Rattle.figuring.specs.Years.{firstYear, lastYear}
+use Rattle.figuring.specs.Units.{engineUnit}
 use Rattle.figuring.specs.Parts.{partMost}
 use Rattle.figuring.specs.Netting.{netMost, netOf, earnedOf, shortfallOf}
 use Rattle.figuring.proofs.NettingLaws.{net-bound}
@@ -113,18 +114,18 @@ close-agrees b a y h g =
     (record {
       sums = sums-clear (h .sums);
       lots =
-          tied-net (h .lots) (earnedBy b) (λ k. earnedOf (netOf (a .sum k))) (g .from) (g .upto)
+          tied-net (h .lots) (earnedBy b) (λ k. earnedOf (netOf engineUnit (a .sum k))) (g .from) (g .upto)
           (λ k i e. ap earnedOf (net-same k i e)) (λ k i e. s .ahead k i (omega arith) .0);
       shortages =
-          tied-net (h .shortages) (shortBy b) (λ k. shortfallOf (netOf (a .sum k))) (g .from) (g .upto)
+          tied-net (h .shortages) (shortBy b) (λ k. shortfallOf (netOf engineUnit (a .sum k))) (g .from) (g .upto)
           (λ k i e. ap shortfallOf (net-same k i e)) (λ k i e. s .ahead k i (omega arith) .1);
     })
   where
     -- what the accounts' sum nets to is what the cell nets to
     net-same :
         (k : Key) → In k → k .year ≡ b .«open_year»
-        → netOf (a .sum k) ≡ netOf (cellSum (b .parts) (cell (k .maker) (k .set)))
-    net-same k i e = ap netOf (sums-at (h .sums) k i e)
+        → netOf engineUnit (a .sum k) ≡ netOf engineUnit (cellSum (b .parts) (cell (k .maker) (k .set)))
+    net-same k i e = ap (netOf engineUnit) (sums-at (h .sums) k i e)
 
 pub close-lawful : (b : Book) (y : ℕ) → Closable b y → Lawful b (Call.Close y)
 unfolding done closeDone isAccepted

@@ -26,6 +26,7 @@ pub mod AmongLaws
 pub mod FiledAlone
 pub mod OneBook
 pub mod FilingOrder
+pub mod Restated
 pub mod InPlaceWalk
 pub mod LentWalk
 pub mod DispatchWalk

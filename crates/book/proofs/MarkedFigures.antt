@@ -28,17 +28,17 @@ use Rattle.book.proofs.KeptSound.{keeps-sound}
 -- ---- P7, of a close: the parts are added before figuring's P7 rounds them. The book is sound by the laws.
 one-sized : Sized onePart
 unfolding onePart
-one-sized = stored-sized freshBook 0 0 (pos 4000000) fresh-sized
+one-sized = stored-sized freshBook 0 0 (pos 40000000) fresh-sized
 
 two-sized : Sized twoParts
 unfolding twoParts
-two-sized = stored-sized onePart 0 1 (pos 4000000) one-sized
+two-sized = stored-sized onePart 0 1 (pos 40000000) one-sized
 
 two-sound : Sound twoParts
 unfolding twoParts onePart
 two-sound =
-    stored-sound onePart 0 1 (pos 4000000) one-sized (omega arith) (omega arith)
-    (stored-sound freshBook 0 0 (pos 4000000) fresh-sized (omega arith) (omega arith) (sound-is freshBook fresh-sound) (omega arith))
+    stored-sound onePart 0 1 (pos 40000000) one-sized (omega arith) (omega arith)
+    (stored-sound freshBook 0 0 (pos 40000000) fresh-sized (omega arith) (omega arith) (sound-is freshBook fresh-sound) (omega arith))
     (omega arith)
 
 two-earned : earnedBy twoParts 0 ≡ 1

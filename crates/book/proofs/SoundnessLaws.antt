@@ -31,7 +31,7 @@ or-false : (a b : Bool) → (a || b) ≡ true → a ≡ false → b ≡ true
 or-false true b e f = absurd (let z : _≡_ {A = ℕ} 0 1 = cc in omega arith)
 or-false false b e f = e
 
-zero-is : (x : ℤ) → natAbs x ≡ 0 → x ≡ pos 0
+pub zero-is : (x : ℤ) → natAbs x ≡ 0 → x ≡ pos 0
 zero-is (pos n) e = ap pos e
 zero-is (negsuc n) e = absurd (omega arith)
 

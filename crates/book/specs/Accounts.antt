@@ -5,6 +5,7 @@ use mathlib.Core.Bool.{Bool, true, false, _&&_}
 use mathlib.Core.List.{List, [], _∷_}
 use lib.Dec.{eqb}
 use lib.IntN.{ℤ, pos, _+ℤ_}
+use Rattle.figuring.specs.Units.{engineUnit}
 use Rattle.figuring.specs.Netting.{netOf, earnedOf, shortfallOf}
 use Rattle.book.specs.Ledger.{Key, key}
 use Rattle.book.specs.Postings.{partFor, sellerLot, buyerLot, appliedLot, coveredShortage, retiredLot}
@@ -89,8 +90,8 @@ move a (Call.File f) =
 move a (Call.Close y) =
     record {
       sum = a .sum;
-      earned = inYear y (λ k. earnedOf (netOf (a .sum k))) (a .earned);
-      shortfall = inYear y (λ k. shortfallOf (netOf (a .sum k))) (a .shortfall);
+      earned = inYear y (λ k. earnedOf (netOf engineUnit (a .sum k))) (a .earned);
+      shortfall = inYear y (λ k. shortfallOf (netOf engineUnit (a .sum k))) (a .shortfall);
       mg = a .mg;
     }
 -- "its Mg are added to sold of the from maker and to bought of the to maker, in its set and vintage"

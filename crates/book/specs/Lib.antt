@@ -11,6 +11,7 @@ pub mod Demand1
 pub mod Companions
 pub mod Orders
 pub mod FilingOrder
+pub mod FiveDecimals
 pub mod Listing
 pub mod Marked
 pub mod EachAccount

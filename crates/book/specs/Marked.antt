@@ -22,7 +22,7 @@ filingWith family fcl =
       «vehicle_use» = 1;
       family = family;
       fcl = fcl;
-      cf = 28000;
+      cf = 280000;
       volume = 1000;
       life = 435;
     })
@@ -31,17 +31,17 @@ filingWith family fcl =
 unfoldable pub lastOpen : Book
 lastOpen = emptyIn 2037
 
--- a fresh book, then with two parts of 4,000,000 stored in cell 0
+-- a fresh book, then with two parts of 40,000,000 stored in cell 0
 unfoldable pub onePart : Book
-onePart = stored freshBook 0 0 (pos 4000000) .book
+onePart = stored freshBook 0 0 (pos 40000000) .book
 
 unfoldable pub twoParts : Book
-twoParts = stored onePart 0 1 (pos 4000000) .book
+twoParts = stored onePart 0 1 (pos 40000000) .book
 
 pub record MarkedFigures : Type 0 where
   -- P1 to P9, and of P10 the limits
   pub figuring : FiguringMarked
-  -- P7 once more, of a close: two parts of 4,000,000 in a cell earn 1 Mg
+  -- P7 once more, of a close: two parts of 40,000,000 in a cell earn 1 Mg
   pub P7 :
       (isAccepted (posted twoParts (Call.Close 2014) .answer) ≡ true)
       × (figureAt (posted twoParts (Call.Close 2014) .book .lots) (key 0 0 2014) ≡ 1)

@@ -5,9 +5,11 @@ use lib.Dec.{ltb}
 use lib.ListN.{getD, set as store, replicate}
 use lib.IntN.{ℤ, pos}
 use Rattle.figuring.specs.Years.{firstYear}
+use Rattle.figuring.specs.Units.{engineUnit}
 use Rattle.figuring.specs.Standards.{standardFor, gramsOf}
 use Rattle.figuring.specs.Parts.{partOf}
 use Rattle.figuring.specs.Netting.{netOf, earnedOf, shortfallOf}
+use Rattle.figuring.specs.declared.netting.Net.{Net}
 use Rattle.book.specs.Sizes.{cells, families, years, places, allParts}
 use Rattle.book.specs.Below.{countBelow}
 use Rattle.book.specs.Ledger.{Key, key, cell, figureAt, lower, raise, withMark, filedIn, cellSum}
@@ -70,11 +72,15 @@ filingDone b f = stored b (filingCell f) (f .family) (partFor f)
 -- ---- Close: "for each cell the parts are added exactly, then rounded once"; what comes out becomes the lot or the
 -- shortage of that year, both written, 0 where there is nothing
 
+-- what a cell's parts, counted in a unit, come to
+abbrev pub cellNet : ℕ → Book → ℕ → Net
+cellNet unit b c = netOf unit (cellSum (b .parts) c)
+
 abbrev pub earnedBy : Book → ℕ → ℕ
-earnedBy b c = earnedOf (netOf (cellSum (b .parts) c))
+earnedBy b c = earnedOf (cellNet engineUnit b c)
 
 abbrev pub shortBy : Book → ℕ → ℕ
-shortBy b c = shortfallOf (netOf (cellSum (b .parts) c))
+shortBy b c = shortfallOf (cellNet engineUnit b c)
 
 -- the figures v of the cells below n, written in the year that is i years after the first
 unfoldable pub netted : ℕ → (ℕ → ℕ) → ℕ → List ℕ → List ℕ
@@ -82,19 +88,22 @@ netted i v zero l = l
 netted i v (suc n) l = store (netted i v n l) (n * years + i) (v n)
 
 -- "Marks and parts are cleared; the open year rises by one. Returns the number of cells that closed short."
-unfoldable pub closeDone : Book → Posted
-closeDone b =
+abbrev pub closedIn : ℕ → Book → Posted
+closedIn unit b =
     record {
-      answer = Answer.Closed (countBelow cells (λ c. ltb 0 (shortBy b c)));
+      answer = Answer.Closed (countBelow cells (λ c. ltb 0 (shortfallOf (cellNet unit b c))));
       book =
           record {
             «open_year» = b .«open_year» + 1;
             marks = replicate cells 0;
             parts = replicate allParts (pos 0);
-            lots = netted (b .«open_year» - firstYear) (earnedBy b) cells (b .lots);
-            shortages = netted (b .«open_year» - firstYear) (shortBy b) cells (b .shortages);
+            lots = netted (b .«open_year» - firstYear) (λ c. earnedOf (cellNet unit b c)) cells (b .lots);
+            shortages = netted (b .«open_year» - firstYear) (λ c. shortfallOf (cellNet unit b c)) cells (b .shortages);
           };
     }
+
+unfoldable pub closeDone : Book → Posted
+closeDone b = closedIn engineUnit b
 
 -- ---- Trade, Apply, Retire: "Each returns what is left in the paying lot."
 

@@ -12,7 +12,7 @@ use Rattle.book.specs.Below.{allBelow, sumBelow}
 use Rattle.book.specs.Ledger.{key, cell, figureAt, marked, partAt}
 use Rattle.book.specs.declared.ledger.Book.{Book}
 
--- "every part within ±3.84 × 10^15, and zero where unmarked"
+-- Card 4: "A sound part lies within ±3.84 × 10^16"; document 01: "and zero where unmarked"
 unfoldable pub partSound : ℕ → ℕ → ℤ → Bool
 partSound mark family z = leb (natAbs z) partMost && (marked mark family || eqb (natAbs z) 0)
 

@@ -1,131 +1,174 @@
--- The nearest Mg to a sum. Above zero it is what `nearest` gives; a sum below zero is the mirror of one above.
+-- The nearest Mg to a sum, in any unit of which half a Mg is a whole number of part units. Above zero it is what `nearest`
+-- gives; a sum below zero is the mirror of one above. A unit ten times as fine, with a sum ten
+-- times as large, changes nothing.
 use Prim.Native.Nat.{ℕ, zero, suc, _+_, _*_, _-_, _/_, _%_, _<_, _≤_}
 use mathlib.Core.Bool.{Bool, true, false}
 use mathlib.Core.Path.{_≡_, refl, sym, _∙_, ap}
 use native.Mathlib.Omega.{arith}
+use native.Mathlib.Nat.{div-add-mod', mod-lt, mul-le-mul-right}
 use borrow.Author.Tests.{ltb-true, ltb-false, eqb-true, eqb-false, lt-ltb, le-ltb}
 use lib.Dec.{ltb, eqb}
 use lib.IntN.{ℤ, pos, negsuc, natAbs, negℤ, _-ℤ_, _*ℤ_, negℤ-negℤ, negℤ-+ℤ}
-use Rattle.figuring.specs.Units.{partsPerMg}
+use Rattle.figuring.specs.FiveDecimals.{finer}
 use Rattle.figuring.specs.Netting.{halfMg, nearest, distance, IsNearest}
-use Rattle.figuring.proofs.SignedLaws.{abs-neg, abs-apart}
+use Rattle.figuring.proofs.SignedLaws.{abs-neg, abs-apart, neg-mul}
 
 -- ---- `nearest`, by the rest beyond the whole Mg
-module _ (n : ℕ) where
-  pub below-half : n % partsPerMg < halfMg → nearest n ≡ n / partsPerMg
+module _ (unit n : ℕ) where
+  pub below-half : n % unit < halfMg unit → nearest unit n ≡ n / unit
   unfolding nearest
-  below-half h = rw (lt-ltb (n % partsPerMg) halfMg h)
+  below-half h = rw (lt-ltb (n % unit) (halfMg unit) h)
 
-  pub above-half : halfMg < n % partsPerMg → nearest n ≡ n / partsPerMg + 1
+  pub above-half : halfMg unit < n % unit → nearest unit n ≡ n / unit + 1
   unfolding nearest
-  above-half h = rw (le-ltb (n % partsPerMg) halfMg (omega arith), lt-ltb halfMg (n % partsPerMg) h)
+  above-half h = rw (le-ltb (n % unit) (halfMg unit) (omega arith), lt-ltb (halfMg unit) (n % unit) h)
 
-  module _ (h : n % partsPerMg ≡ halfMg) where
-    pub half-even : n / partsPerMg % 2 ≡ 0 → nearest n ≡ n / partsPerMg
+  module _ (h : n % unit ≡ halfMg unit) where
+    pub half-even : n / unit % 2 ≡ 0 → nearest unit n ≡ n / unit
     unfolding nearest
-    half-even e = rw (h, e)
+    half-even e = rw (le-ltb (n % unit) (halfMg unit) (omega arith), le-ltb (halfMg unit) (n % unit) (omega arith), e)
 
-    pub half-odd : n / partsPerMg % 2 ≡ 1 → nearest n ≡ n / partsPerMg + 1
+    pub half-odd : n / unit % 2 ≡ 1 → nearest unit n ≡ n / unit + 1
     unfolding nearest
-    half-odd e = rw (h, e)
+    half-odd e = rw (le-ltb (n % unit) (halfMg unit) (omega arith), le-ltb (halfMg unit) (n % unit) (omega arith), e)
 
--- ---- above zero
-distance-above : (n m : ℕ) → distance (pos n) (pos m) ≡ (n - m * partsPerMg) + (m * partsPerMg - n)
-distance-above n m = abs-apart n (m * partsPerMg)
+-- half a Mg is a whole number of part units, above 0
+pub record HasHalf (unit : ℕ) : Type 0 where
+  pub above : 0 < unit
+  pub whole : unit % 2 ≡ 0
 
-pub near : (n : ℕ) → IsNearest (pos n) (pos (nearest n))
-near n = go (ltb rest halfMg) (ltb halfMg rest) (eqb (whole % 2) 0) refl refl refl
-  where
-    whole : ℕ
-    whole = n / partsPerMg
+distance-above : (unit n m : ℕ) → distance unit (pos n) (pos m) ≡ (n - m * unit) + (m * unit - n)
+distance-above unit n m = abs-apart n (m * unit)
 
-    rest : ℕ
-    rest = n % partsPerMg
+module _ (unit : ℕ) (u : HasHalf unit) where
+  -- ---- above zero
+  pub near : (n : ℕ) → IsNearest unit (pos n) (pos (nearest unit n))
+  near n = go (ltb rest half) (ltb half rest) (eqb (whole % 2) 0) refl refl refl
+    where
+      half : ℕ
+      half = halfMg unit
 
-    go :
-        (under over even : Bool)
-        → ltb rest halfMg ≡ under → ltb halfMg rest ≡ over → eqb (whole % 2) 0 ≡ even
-        → IsNearest (pos n) (pos (nearest n))
-    go true over even u o e =
-        let h : rest < halfMg = ltb-true rest halfMg u in
-        let d = distance-above n whole in
-        rw (below-half n h) (record { within = omega (arith, d); even = λ k. omega (arith, d, k) })
-    go false true even u o e =
-        let h : halfMg < rest = ltb-true halfMg rest o in
-        let d = distance-above n (whole + 1) in
-        rw (above-half n h) (record { within = omega (arith, d); even = λ k. omega (arith, d, k) })
-    go false false true u o e =
-        let h : rest ≡ halfMg = omega (arith, ltb-false rest halfMg u, ltb-false halfMg rest o) in
-        let f : whole % 2 ≡ 0 = eqb-true (whole % 2) 0 e in
-        let d = distance-above n whole in
-        rw (half-even n h f) (record { within = omega (arith, d); even = λ k. f })
-    go false false false u o e =
-        let h : rest ≡ halfMg = omega (arith, ltb-false rest halfMg u, ltb-false halfMg rest o) in
-        let f : whole % 2 ≡ 1 = omega (arith, eqb-false (whole % 2) 0 e) in
-        let d = distance-above n (whole + 1) in
-        rw (half-odd n h f) (record { within = omega (arith, d); even = λ k. omega (arith, f) })
+      whole : ℕ
+      whole = n / unit
 
-pub nearest-most : (n : ℕ) → nearest n * partsPerMg ≤ n + halfMg
-nearest-most n = omega (arith, distance-above n (nearest n), near n .within)
+      rest : ℕ
+      rest = n % unit
 
--- of two Mg the greater is not nearest as well: both would be exactly half a Mg away, next to one another, and even
-not-both : (n a b : ℕ) → a < b → IsNearest (pos n) (pos a) → IsNearest (pos n) (pos b) → ⊥
-not-both n a b l f g =
-    let p = distance-above n a in
-    let q = distance-above n b in
-    let x : distance (pos n) (pos a) ≡ halfMg = omega (arith, p, q, f .within, g .within) in
-    let y : distance (pos n) (pos b) ≡ halfMg = omega (arith, p, q, f .within, g .within) in
-    let next : b ≡ a + 1 = omega (arith, p, q, x, y) in
-    let even-a : a % 2 ≡ 0 = f .even x in
-    let even-b : b % 2 ≡ 0 = g .even y in
-    omega arith
+      parted : whole * unit + rest ≡ n
+      parted = div-add-mod' n unit
 
-none-below : (n a : ℕ) → IsNearest (pos n) (negsuc a) → ⊥
-none-below n a f = omega (arith, far n (suc a * partsPerMg), f .within)
-  where
-    far : (a b : ℕ) → b ≤ natAbs (pos a -ℤ negℤ (pos b))
-    far a zero = omega arith
-    far a (suc b) = omega arith
+      go :
+          (under over even : Bool)
+          → ltb rest half ≡ under → ltb half rest ≡ over → eqb (whole % 2) 0 ≡ even
+          → IsNearest unit (pos n) (pos (nearest unit n))
+      go true over even a b e =
+          let h : rest < half = ltb-true rest half a in
+          let d = distance-above unit n whole in
+          rw (below-half unit n h)
+          (record { within = omega (arith, d, parted); even = λ k. omega (arith, d, k, parted) })
+      go false true even a b e =
+          let h : half < rest = ltb-true half rest b in
+          let d = distance-above unit n (whole + 1) in
+          let l : rest < unit = mod-lt n (u .above) in
+          rw (above-half unit n h)
+          (record { within = omega (arith, d, parted, u); even = λ k. omega (arith, d, k, parted, u) })
+      go false false true a b e =
+          let h : rest ≡ half = omega (arith, ltb-false rest half a, ltb-false half rest b) in
+          let f : whole % 2 ≡ 0 = eqb-true (whole % 2) 0 e in
+          let d = distance-above unit n whole in
+          rw (half-even unit n h f) (record { within = omega (arith, d, parted); even = λ k. f })
+      go false false false a b e =
+          let h : rest ≡ half = omega (arith, ltb-false rest half a, ltb-false half rest b) in
+          let f : whole % 2 ≡ 1 = omega (arith, eqb-false (whole % 2) 0 e) in
+          let d = distance-above unit n (whole + 1) in
+          rw (half-odd unit n h f) (record { within = omega (arith, d, parted, u); even = λ k. omega (arith, f) })
 
-only-above : (n : ℕ) (m m′ : ℤ) → IsNearest (pos n) m → IsNearest (pos n) m′ → m ≡ m′
-only-above n (pos a) (pos b) f g = ap pos (go (ltb a b) (ltb b a) refl refl)
-  where
-    go : (less more : Bool) → ltb a b ≡ less → ltb b a ≡ more → a ≡ b
-    go true more l k = absurd (not-both n a b (ltb-true a b l) f g)
-    go false true l k = absurd (not-both n b a (ltb-true b a k) g f)
-    go false false l k =
-        let x : b ≤ a = ltb-false a b l in
-        let y : a ≤ b = ltb-false b a k in
-        omega arith
-only-above n (negsuc a) m′ f g = absurd (none-below n a f)
-only-above n (pos a) (negsuc b) f g = absurd (none-below n b g)
+  pub nearest-most : (n : ℕ) → nearest unit n * unit ≤ n + halfMg unit
+  nearest-most n = omega (arith, distance-above unit n (nearest unit n), near n .within)
 
--- ---- below zero, the mirror
-mirror-mg : (m : ℤ) → negℤ m *ℤ pos partsPerMg ≡ negℤ (m *ℤ pos partsPerMg)
-mirror-mg (pos zero) = refl
-mirror-mg (pos (suc m)) = refl
-mirror-mg (negsuc m) = sym (negℤ-negℤ (pos (suc m * partsPerMg)))
+  -- of two Mg the greater is not nearest as well: both would be exactly half a Mg away, next to one another, and even
+  not-both : (n a b : ℕ) → a < b → IsNearest unit (pos n) (pos a) → IsNearest unit (pos n) (pos b) → ⊥
+  not-both n a b l f g =
+      let p = distance-above unit n a in
+      let q = distance-above unit n b in
+      let apart : (a + 1) * unit ≤ b * unit = mul-le-mul-right unit (omega arith) in
+      let x : distance unit (pos n) (pos a) ≡ halfMg unit = omega (arith, p, q, f .within, g .within, apart, u) in
+      let y : distance unit (pos n) (pos b) ≡ halfMg unit = omega (arith, p, q, f .within, g .within, apart, u) in
+      let even-a : a % 2 ≡ 0 = f .even x in
+      let even-b : b % 2 ≡ 0 = g .even y in
+      let further : (a + 2) * unit ≤ b * unit = mul-le-mul-right unit (omega arith) in
+      omega (arith, p, q, x, y, further, u)
 
-mirror-distance : (z m : ℤ) → distance (negℤ z) (negℤ m) ≡ distance z m
-mirror-distance z m =
-    ap (λ (x : ℤ). natAbs (negℤ z -ℤ x)) (mirror-mg m)
-    ∙ ap natAbs (sym (negℤ-+ℤ z (negℤ (m *ℤ pos partsPerMg))))
-    ∙ abs-neg (z -ℤ m *ℤ pos partsPerMg)
+  none-below : (n a : ℕ) → IsNearest unit (pos n) (negsuc a) → ⊥
+  none-below n a f =
+      let most : 1 * unit ≤ suc a * unit = mul-le-mul-right unit (omega arith) in
+      omega (arith, far n (suc a * unit), f .within, most, u)
+    where
+      far : (a b : ℕ) → b ≤ natAbs (pos a -ℤ negℤ (pos b))
+      far a zero = omega arith
+      far a (suc b) = omega arith
 
-pub mirror : (z m : ℤ) → IsNearest z m → IsNearest (negℤ z) (negℤ m)
-mirror z m f =
-    record {
-      within = rw (mirror-distance z m) (f .within);
-      even = λ h. abs-even (f .even (sym (mirror-distance z m) ∙ h));
-    }
-  where
-    abs-even : natAbs m % 2 ≡ 0 → natAbs (negℤ m) % 2 ≡ 0
-    abs-even e = rw (abs-neg m) e
+  only-above : (n : ℕ) (m m′ : ℤ) → IsNearest unit (pos n) m → IsNearest unit (pos n) m′ → m ≡ m′
+  only-above n (pos a) (pos b) f g = ap pos (go (ltb a b) (ltb b a) refl refl)
+    where
+      go : (less more : Bool) → ltb a b ≡ less → ltb b a ≡ more → a ≡ b
+      go true more l k = absurd (not-both n a b (ltb-true a b l) f g)
+      go false true l k = absurd (not-both n b a (ltb-true b a k) g f)
+      go false false l k =
+          let x : b ≤ a = ltb-false a b l in
+          let y : a ≤ b = ltb-false b a k in
+          omega arith
+  only-above n (negsuc a) m′ f g = absurd (none-below n a f)
+  only-above n (pos a) (negsuc b) f g = absurd (none-below n b g)
 
--- ---- any sum
-pub only-one : (sum m m′ : ℤ) → IsNearest sum m → IsNearest sum m′ → m ≡ m′
-only-one (pos n) m m′ f g = only-above n m m′ f g
-only-one (negsuc n) m m′ f g =
-    sym (negℤ-negℤ m)
-    ∙ ap negℤ (only-above (suc n) (negℤ m) (negℤ m′) (mirror (negsuc n) m f) (mirror (negsuc n) m′ g))
-    ∙ negℤ-negℤ m′
+  -- ---- below zero, the mirror
+  mirror-distance : (z m : ℤ) → distance unit (negℤ z) (negℤ m) ≡ distance unit z m
+  mirror-distance z m =
+      ap (λ (x : ℤ). natAbs (negℤ z -ℤ x)) (neg-mul m unit)
+      ∙ ap natAbs (sym (negℤ-+ℤ z (negℤ (m *ℤ pos unit))))
+      ∙ abs-neg (z -ℤ m *ℤ pos unit)
+
+  pub mirror : (z m : ℤ) → IsNearest unit z m → IsNearest unit (negℤ z) (negℤ m)
+  mirror z m f =
+      record {
+        within = rw (mirror-distance z m) (f .within);
+        even = λ h. abs-even (f .even (sym (mirror-distance z m) ∙ h));
+      }
+    where
+      abs-even : natAbs m % 2 ≡ 0 → natAbs (negℤ m) % 2 ≡ 0
+      abs-even e = rw (abs-neg m) e
+
+  -- ---- any sum
+  pub only-one : (sum m m′ : ℤ) → IsNearest unit sum m → IsNearest unit sum m′ → m ≡ m′
+  only-one (pos n) m m′ f g = only-above n m m′ f g
+  only-one (negsuc n) m m′ f g =
+      sym (negℤ-negℤ m)
+      ∙ ap negℤ (only-above (suc n) (negℤ m) (negℤ m′) (mirror (negsuc n) m f) (mirror (negsuc n) m′ g))
+      ∙ negℤ-negℤ m′
+
+-- ---- ten times as many part units to one Mg
+module _ (unit : ℕ) (u : HasHalf unit) where
+  finer-half : HasHalf (unit * finer)
+  finer-half = record { above = omega (arith, u); whole = omega (arith, u) }
+
+  -- what is nearest is so in the finer unit, and there is only one
+  pub nearest-finer : (n : ℕ) → nearest (unit * finer) (n * finer) ≡ nearest unit n
+  nearest-finer n =
+      ap natAbs
+      (only-one (unit * finer) finer-half (pos (n * finer)) (pos (nearest (unit * finer) (n * finer))) (pos (nearest unit n))
+      (near (unit * finer) finer-half (n * finer)) scaled)
+    where
+      m : ℕ
+      m = nearest unit n
+
+      old : IsNearest unit (pos n) (pos m)
+      old = near unit u n
+
+      scaled : IsNearest (unit * finer) (pos (n * finer)) (pos m)
+      scaled =
+          let d = distance-above unit n m in
+          let e = distance-above (unit * finer) (n * finer) m in
+          record {
+            within = omega (arith, d, e, old .within, u);
+            even = λ h. old .even (omega (arith, d, e, h, u));
+          }

@@ -3,11 +3,20 @@
 ghost use mathlib.Core.Bool.{true};
 ghost use mathlib.Core.Path.{_≡_};
 ghost use Rattle.figuring.specs.Marked.{FiguringMarked};
+ghost use Rattle.figuring.specs.Units.{engineUnit};
 ghost use Rattle.figuring.specs.Netting.{RoundsToNearest};
+ghost use Rattle.figuring.specs.FiveDecimals.{CardFigures, SameMg};
 
 // What a sum of parts earns, less its shortfall, is its nearest Mg; it has only one, and never both sides at once.
 pub fn rounds_to_nearest() -> bool
-    ensures { λ r. ⌜ (r ≡ true) × RoundsToNearest ⌝ }
+    ensures { λ r. ⌜ (r ≡ true) × RoundsToNearest engineUnit ⌝ }
+{
+    true
+}
+
+// Card 4: its figures, and that the Mg of every old figure are the same once its CF is multiplied by 10.
+pub fn same_mg() -> bool
+    ensures { λ r. ⌜ (r ≡ true) × CardFigures × SameMg ⌝ }
 {
     true
 }

@@ -28,7 +28,7 @@ NoForm s = lineOf s ≡ Line.NoForm
 -- from the paper's input and output
 pub record Run : Type 0 where
   pub file :
-      ascii "(file (maker 0) (set 3) (year 2014) (use 1) (family 0) (fcl 465) (cf 28000) (volume 1000) (life 435))"
+      ascii "(file (maker 0) (set 3) (year 2014) (use 1) (family 0) (fcl 465) (cf 280000) (volume 1000) (life 435))"
       reads Call.File (record {
         maker = 0;
         set = 3;
@@ -36,7 +36,7 @@ pub record Run : Type 0 where
         «vehicle_use» = 1;
         family = 0;
         fcl = 465;
-        cf = 28000;
+        cf = 280000;
         volume = 1000;
         life = 435;
       })
@@ -50,8 +50,8 @@ pub record Run : Type 0 where
   pub retire :
       ascii "(retire (maker 1) (set 3) (vintage 2014) (mg 1))"
       reads Call.Retire (record { maker = 1; set = 3; vintage = 2014; mg = 1 })
-  pub filed : textOf (Answer.Filed (record { 0 = pos 121800000000 }) 1) ≡ ascii "(ok 121800000000 1)\n"
-  pub filed-minus : textOf (Answer.Filed (record { 0 = neg 2610000000 }) 1) ≡ ascii "(ok -2610000000 1)\n"
+  pub filed : textOf (Answer.Filed (record { 0 = pos 1218000000000 }) 1) ≡ ascii "(ok 1218000000000 1)\n"
+  pub filed-minus : textOf (Answer.Filed (record { 0 = neg 26100000000 }) 1) ≡ ascii "(ok -26100000000 1)\n"
   pub closed : textOf (Answer.Closed 1) ≡ ascii "(ok 1)\n"
   pub left : textOf (Answer.Left (record { 0 = 11980 })) ≡ ascii "(ok 11980)\n"
   pub refused : textOf (Answer.Refused Refusal.AboveLot) ≡ ascii "(no 15)\n"

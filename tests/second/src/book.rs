@@ -7,7 +7,8 @@ pub const SETS: usize = 4;
 pub const CELLS: usize = MAKERS * SETS;
 pub const FAMILIES: usize = 64;
 
-pub const PART_LIMIT: u64 = 3_840_000_000_000_000;
+/// For a part's size, on either side of zero.
+pub const PART_LIMIT: u64 = 38_400_000_000_000_000;
 pub const SHORTAGE_LIMIT: Mg = Mg(25_000_000_000);
 /// For the lots of all makers together, in one set and vintage.
 pub const LOTS_LIMIT: Mg = Mg(200_000_000_000);

@@ -10,14 +10,16 @@ pub const ALL_CLOSED: u64 = LAST_YEAR + 1;
 pub const YEARS: usize = 24;
 
 pub const MAX_FCL: u64 = 1_200;
-pub const MAX_CF: u64 = 100_000;
+pub const MAX_CF: u64 = 1_000_000;
 pub const MAX_VOLUME: u64 = 100_000;
 pub const MAX_LIFE: u64 = 500;
 
 /// Part units in one Mg.
-const PARTS_IN_A_MG: i128 = 10_000_000;
+pub const PARTS_IN_A_MG: i64 = 100_000_000;
+/// Part units in half a Mg.
+pub const HALF_A_MG: i64 = PARTS_IN_A_MG / 2;
 
-/// Credits of one family, signed, in units of 10^-7 Mg.
+/// Credits of one family, signed, in units of 10^-8 Mg.
 #[derive(Clone, Copy, Debug, Default, PartialEq, Eq, PartialOrd, Ord)]
 pub struct Part(pub i64);
 
@@ -42,7 +44,7 @@ impl fmt::Display for Mg {
 pub struct Figures {
     /// Certified level, g/hp-hr.
     pub fcl: u64,
-    /// Conversion factor, ten-thousandths of a hp-hr per mile.
+    /// Conversion factor, hundred-thousandths of a hp-hr per mile.
     pub cf: u64,
     /// Engines.
     pub volume: u64,
@@ -85,7 +87,8 @@ fn by_period(year: u64, [a, b, c, d, e]: [u16; 5]) -> Option<u16> {
 }
 
 /// The family's part, or none if a figure is outside its limits. Within them
-/// the product stays below 65,535 x 5 x 10^12 for any standard.
+/// the product stays below 65,535 x 5 x 10^13 for any standard, which is below
+/// 2^63.
 pub fn part(standard: u16, figures: &Figures) -> Option<Part> {
     if !figures.within_limits() {
         return None;
@@ -99,9 +102,9 @@ pub fn part(standard: u16, figures: &Figures) -> Option<Part> {
 /// A sum of parts rounded to the nearest Mg, signed; an exact half goes to the
 /// even one of the two Mg it lies between.
 pub fn rounded(sum: i128) -> i128 {
-    let below = sum.div_euclid(PARTS_IN_A_MG);
-    let rest = sum.rem_euclid(PARTS_IN_A_MG);
-    match (2 * rest).cmp(&PARTS_IN_A_MG) {
+    let mg = i128::from(PARTS_IN_A_MG);
+    let (below, rest) = (sum.div_euclid(mg), sum.rem_euclid(mg));
+    match rest.cmp(&i128::from(HALF_A_MG)) {
         Ordering::Less => below,
         Ordering::Equal => below + below.rem_euclid(2),
         Ordering::Greater => below + 1,

@@ -6,9 +6,9 @@ mod common;
 use common::*;
 use second::audit::Audit;
 use second::book::Book;
-use second::figuring::{Mg, Part};
+use second::figuring::{Figures, Mg, Part};
 use second::generate::{session, Kind};
-use second::postings::{post, Call};
+use second::postings::{post, Answer, Call, Filing, Refusal};
 use second::text::{parse, Lines};
 use std::convert::Infallible;
 
@@ -17,7 +17,7 @@ fn call(line: &str) -> Call {
 }
 
 const FILE: &str =
-    "(file (maker 0) (set 3) (year 2014) (use 0) (family 0) (fcl 466) (cf 100000) (volume 100) (life 1))";
+    "(file (maker 0) (set 3) (year 2014) (use 0) (family 0) (fcl 466) (cf 1000000) (volume 100) (life 1))";
 const CLOSE: &str = "(close (year 2014))";
 
 /// An audit and a book in which maker 0 holds 101 Mg of set 3.
@@ -125,24 +125,75 @@ fn sums_at_closes(input: &[u8]) -> Vec<i64> {
 #[test]
 fn sessions_close_on_halves_and_beside_them() {
     for kind in [Kind::Years, Kind::Hostile] {
-        let sums: Vec<i64> = (0..5)
+        let sums: Vec<i64> = (0..8)
             .flat_map(|seed| sums_at_closes(&session(kind, seed, kind.usual_lines())))
             .collect();
         // After an even Mg and after an odd one, above zero and below.
-        for half in [5_000_000, 15_000_000, -5_000_000, -15_000_000] {
+        for half in [50_000_000, 150_000_000, -50_000_000, -150_000_000] {
             let near = |beside| {
                 sums.iter()
-                    .filter(|&sum| sum % 20_000_000 == half + beside)
+                    .filter(|&sum| sum % 200_000_000 == half + beside)
                     .count()
             };
             let whole = sums.iter().filter(|&&sum| sum == half).count();
             let found = [near(-1), near(0), near(1), whole];
             let common = found
                 .iter()
-                .zip([8, 20, 8, 4])
+                .zip([8, 30, 8, 10])
                 .all(|(&n, least)| n >= least);
             assert!(common, "{kind:?} {half}: {found:?}");
         }
+    }
+}
+
+/// The filings of a kind's first sessions, each with its answer.
+fn filings(kind: Kind) -> Vec<(Filing, Answer)> {
+    let mut seen = Vec::new();
+    for seed in 0..4 {
+        let mut book = Book::fresh();
+        let input = session(kind, seed, kind.usual_lines());
+        for call in input.split(|&byte| byte == b'\n').filter_map(parse) {
+            let answer = post(&mut book, &call);
+            if let Call::File(filing) = call {
+                seen.push((filing, answer));
+            }
+        }
+    }
+    seen
+}
+
+#[test]
+fn most_families_need_the_fifth_decimal_of_cf() {
+    for kind in [Kind::Years, Kind::Hostile, Kind::Mixed, Kind::Single] {
+        let filings = filings(kind);
+        let accepted = filings.iter().filter(|(_, answer)| answer.is_ok());
+        let cfs: Vec<u64> = accepted.map(|(filing, _)| filing.figures.cf).collect();
+        let needed = cfs.iter().filter(|&cf| cf % 10 != 0).count();
+        let all = cfs.len();
+        assert!(4 * needed > 3 * all, "{kind:?}: {needed} of {all}");
+    }
+}
+
+#[test]
+fn hostile_sessions_reach_the_ends_of_cf() {
+    let filings = filings(Kind::Hostile);
+    let count = |wanted: u64, answered: fn(&Answer) -> bool| {
+        let like = filings.iter().filter(|(filing, answer)| {
+            let others = Figures {
+                cf: 1,
+                ..filing.figures
+            };
+            filing.figures.cf == wanted && others.within_limits() && answered(answer)
+        });
+        like.count()
+    };
+    for cf in [1, 100_000, 100_001, 999_999, 1_000_000] {
+        let taken = count(cf, |answer| answer.is_ok());
+        assert!(taken >= 10, "{cf} taken {taken} times");
+    }
+    for cf in [0, 1_000_001] {
+        let refused = count(cf, |answer| *answer == Err(Refusal::Limits));
+        assert!(refused >= 10, "{cf} refused {refused} times");
     }
 }
 

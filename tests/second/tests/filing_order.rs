@@ -114,7 +114,7 @@ fn any_filing(rng: &mut Rng, year: u64, narrow: bool) -> Filing {
         family: rng.below(if odd { 70 } else { 64 }),
         figures: Figures {
             fcl: level,
-            cf: figure(rng, 100_000, odd),
+            cf: figure(rng, 1_000_000, odd),
             volume: figure(rng, 100_000, odd),
             life: figure(rng, 500, odd),
         },
@@ -242,7 +242,7 @@ fn plain(family: u64, fcl: u64) -> Filing {
         family,
         figures: Figures {
             fcl,
-            cf: 28_000,
+            cf: 280_000,
             volume: 1_000,
             life: 435,
         },
@@ -257,7 +257,7 @@ fn the_count_goes_by_the_order() {
         filings.map(|filing| post(&mut book, &Call::File(filing)))
     };
     let (one, other) = (plain(0, 566), plain(1, 568));
-    let part = 28_000 * 1_000 * 435;
+    let part = 280_000 * 1_000 * 435;
     assert_eq!(count([one, other]), [filed(part, 1), filed(-part, 2)]);
     assert_eq!(count([other, one]), [filed(-part, 1), filed(part, 2)]);
 }

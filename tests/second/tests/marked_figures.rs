@@ -1,4 +1,5 @@
-//! The paper's marked figures P1 to P12 and its run.
+//! The paper's marked figures P1 to P12 and its run, as cards 3 and 4 restate
+//! them.
 
 mod common;
 
@@ -10,8 +11,8 @@ use second::figuring::{
 use second::text::parse;
 
 const RUN: &str = "\
-(file (maker 0) (set 3) (year 2014) (use 1) (family 0) (fcl 465) (cf 28000) (volume 1000) (life 435))
-(file (maker 1) (set 3) (year 2014) (use 0) (family 5) (fcl 569) (cf 30000) (volume 100) (life 435))
+(file (maker 0) (set 3) (year 2014) (use 1) (family 0) (fcl 465) (cf 280000) (volume 1000) (life 435))
+(file (maker 1) (set 3) (year 2014) (use 0) (family 5) (fcl 569) (cf 300000) (volume 100) (life 435))
 (close (year 2014))
 (trade (from 0) (to 1) (set 3) (vintage 2014) (mg 200))
 (apply (maker 1) (set 3) (vintage 2014) (year 2014) (mg 261))
@@ -20,8 +21,8 @@ const RUN: &str = "\
 ";
 
 const RUN_OUTPUT: &str = "\
-(ok 121800000000 1)
-(ok -2610000000 1)
+(ok 1218000000000 1)
+(ok -26100000000 1)
 (ok 1)
 (ok 11980)
 (no 15)
@@ -69,32 +70,32 @@ fn p2_heavy_tractor() {
 fn p3_and_p4_the_two_parts() {
     let credit = Figures {
         fcl: 465,
-        cf: 28_000,
+        cf: 280_000,
         volume: 1_000,
         life: 435,
     };
-    assert_eq!(part(475, &credit), Some(Part(121_800_000_000)));
+    assert_eq!(part(475, &credit), Some(Part(1_218_000_000_000)));
     let debit = Figures {
         fcl: 569,
-        cf: 30_000,
+        cf: 300_000,
         volume: 100,
         life: 435,
     };
-    assert_eq!(part(567, &debit), Some(Part(-2_610_000_000)));
+    assert_eq!(part(567, &debit), Some(Part(-26_100_000_000)));
 }
 
 #[test]
 fn p5_and_p6_halves_round_to_the_even_mg() {
     for (sum, mg) in [
-        (4_999_999, 0),
-        (5_000_000, 0),
-        (5_000_001, 1),
-        (14_999_999, 1),
-        (15_000_000, 2),
-        (15_000_001, 2),
-        (24_999_999, 2),
-        (25_000_000, 2),
-        (25_000_001, 3),
+        (49_999_999, 0),
+        (50_000_000, 0),
+        (50_000_001, 1),
+        (149_999_999, 1),
+        (150_000_000, 2),
+        (150_000_001, 2),
+        (249_999_999, 2),
+        (250_000_000, 2),
+        (250_000_001, 3),
     ] {
         assert_eq!(rounded(sum), mg, "{sum}");
         assert_eq!(rounded(-sum), -mg, "-{sum}");
@@ -104,8 +105,8 @@ fn p5_and_p6_halves_round_to_the_even_mg() {
 #[test]
 fn p7_two_parts_are_added_before_they_are_rounded() {
     let mut book = Book::fresh();
-    assert_eq!(file(&mut book, 0, 566, 40_000, 100), filed(4_000_000, 1));
-    assert_eq!(file(&mut book, 1, 566, 40_000, 100), filed(4_000_000, 2));
+    assert_eq!(file(&mut book, 0, 566, 400_000, 100), filed(40_000_000, 1));
+    assert_eq!(file(&mut book, 1, 566, 400_000, 100), filed(40_000_000, 2));
     assert_eq!(close(&mut book), closed(0));
     assert_eq!(lot(&book, 0, 3, 2014), 1);
 }

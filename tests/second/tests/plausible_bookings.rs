@@ -8,16 +8,16 @@ use second::book::Book;
 
 #[test]
 fn families_are_not_rounded_one_by_one() {
-    // 4,000,000 twice is 1 Mg; each alone rounds to 0.
+    // 40,000,000 twice is 1 Mg; each alone rounds to 0.
     let mut book = Book::fresh();
-    file(&mut book, 0, 566, 40_000, 100).expect("accepted");
-    file(&mut book, 1, 566, 40_000, 100).expect("accepted");
+    file(&mut book, 0, 566, 400_000, 100).expect("accepted");
+    file(&mut book, 1, 566, 400_000, 100).expect("accepted");
     close(&mut book).expect("accepted");
     assert_eq!(lot(&book, 0, 3, 2014), 1);
-    // 6,000,000 twice is 1 Mg; each alone rounds to 1.
+    // 60,000,000 twice is 1 Mg; each alone rounds to 1.
     let mut book = Book::fresh();
-    file(&mut book, 0, 566, 60_000, 100).expect("accepted");
-    file(&mut book, 1, 566, 60_000, 100).expect("accepted");
+    file(&mut book, 0, 566, 600_000, 100).expect("accepted");
+    file(&mut book, 1, 566, 600_000, 100).expect("accepted");
     close(&mut book).expect("accepted");
     assert_eq!(lot(&book, 0, 3, 2014), 1);
 }
@@ -27,9 +27,9 @@ fn a_vintage_pays_for_the_shortage_five_years_on() {
     // Vintage 2014 is still live after 2019 closed, when that year's own
     // shortage appears, and covers it.
     let mut book = Book::fresh();
-    file(&mut book, 0, 566, 100_000, 100).expect("accepted");
+    file(&mut book, 0, 566, 1_000_000, 100).expect("accepted");
     close_until(&mut book, 2019);
-    file(&mut book, 0, 556, 100_000, 100).expect("accepted");
+    file(&mut book, 0, 556, 1_000_000, 100).expect("accepted");
     assert_eq!(close(&mut book), closed(1));
     let apply = "(apply (maker 0) (set 3) (vintage 2014) (year 2019) (mg 1))";
     assert_eq!(say(&mut book, apply), left(0));

@@ -18,17 +18,17 @@ fn halves_of_any_size_round_to_the_even_mg() {
         (9_999_999_999, 10_000_000_000),
         (1 << 80, 1 << 80),
     ] {
-        let sum = whole * 10_000_000;
-        assert_eq!(rounded(sum + 4_999_999), whole);
-        assert_eq!(rounded(sum + 5_000_000), even);
-        assert_eq!(rounded(sum + 5_000_001), whole + 1);
-        assert_eq!(rounded(-sum - 4_999_999), -whole);
-        assert_eq!(rounded(-sum - 5_000_000), -even);
-        assert_eq!(rounded(-sum - 5_000_001), -whole - 1);
+        let sum = whole * 100_000_000;
+        assert_eq!(rounded(sum + 49_999_999), whole);
+        assert_eq!(rounded(sum + 50_000_000), even);
+        assert_eq!(rounded(sum + 50_000_001), whole + 1);
+        assert_eq!(rounded(-sum - 49_999_999), -whole);
+        assert_eq!(rounded(-sum - 50_000_000), -even);
+        assert_eq!(rounded(-sum - 50_000_001), -whole - 1);
     }
     assert_eq!(
         rounded(i128::MIN),
-        -17_014_118_346_046_923_173_168_730_371_588
+        -1_701_411_834_604_692_317_316_873_037_159
     );
 }
 
@@ -49,7 +49,7 @@ fn halves_at_a_close() {
     ] {
         for sign in [1, -1] {
             let mut book = Book::fresh();
-            file(&mut book, 0, (567 - sign) as u64, 50_000, volume).expect("accepted");
+            file(&mut book, 0, (567 - sign) as u64, 500_000, volume).expect("accepted");
             let level = (567 - sign * beside) as u64;
             file(&mut book, 1, level, 1, 1).expect("accepted");
             let short = sign < 0 && mg > 0;
@@ -64,11 +64,14 @@ fn halves_at_a_close() {
 fn figures_outside_their_limits_have_no_part() {
     let within = Figures {
         fcl: 1,
-        cf: 100_000,
+        cf: 1_000_000,
         volume: 100_000,
         life: 500,
     };
-    assert_eq!(part(627, &within), Some(Part(3_130_000_000_000_000)));
+    assert_eq!(part(627, &within), Some(Part(31_300_000_000_000_000)));
+    // A standard of any 16 bits leaves the part within 64.
+    let largest = 3_276_700_000_000_000_000;
+    assert_eq!(part(u16::MAX, &within), Some(Part(largest)));
     let edges = [
         Figures { fcl: 0, ..within },
         Figures {
@@ -77,7 +80,7 @@ fn figures_outside_their_limits_have_no_part() {
         },
         Figures { cf: 0, ..within },
         Figures {
-            cf: 100_001,
+            cf: 1_000_001,
             ..within
         },
         Figures {
@@ -145,7 +148,7 @@ fn parts_are_within_their_limit_and_zero_where_unmarked() {
             book.parts[31][63] = Part(part);
         })
     };
-    let limit = 3_840_000_000_000_000;
+    let limit = 38_400_000_000_000_000;
     assert!([0, 1, limit, -limit].into_iter().all(marked));
     let outside = [limit + 1, -limit - 1, i64::MAX, i64::MIN];
     assert!(!outside.into_iter().any(marked));
@@ -327,7 +330,7 @@ fn the_largest_year_keeps_the_book_sound() {
     close_until(&mut book, 2027);
     for maker in 0..8 {
         for family in 0..64 {
-            let tail = "(cf 100000) (volume 100000) (life 500))";
+            let tail = "(cf 1000000) (volume 100000) (life 500))";
             let head = format!("(file (maker {maker})");
             let lowest =
                 format!("{head} (set 0) (year 2027) (use 0) (family {family}) (fcl 1) {tail}");

@@ -3,7 +3,7 @@
 use super::years::names;
 use super::Script;
 use crate::book::{CELLS, FAMILIES};
-use crate::figuring::{standard, Figures, YEARS};
+use crate::figuring::{standard, Figures, MAX_CF, MAX_FCL, MAX_LIFE, MAX_VOLUME, YEARS};
 use crate::postings::{Call, Filing};
 
 const POSTINGS_A_YEAR: usize = 100;
@@ -63,11 +63,11 @@ impl Script {
         };
         let figures = match levels {
             Levels::Lowest => at_the_limits(1),
-            Levels::Highest => at_the_limits(1_200),
+            Levels::Highest => at_the_limits(MAX_FCL),
             Levels::Plausible => Figures {
                 fcl: (i64::from(standard) + self.leaning[cell] + self.rng.below(11) as i64 - 5)
                     .max(1) as u64,
-                cf: self.rng.between(11_000, 31_000),
+                cf: self.rng.between(110_000, 310_000),
                 volume: self.rng.between(1, 9_000),
                 life: self.rng.pick(&[110, 150, 185, 435]).copied().unwrap_or(110),
             },
@@ -95,8 +95,8 @@ impl Script {
 fn at_the_limits(fcl: u64) -> Figures {
     Figures {
         fcl,
-        cf: 100_000,
-        volume: 100_000,
-        life: 500,
+        cf: MAX_CF,
+        volume: MAX_VOLUME,
+        life: MAX_LIFE,
     }
 }

@@ -3,7 +3,7 @@
 use super::years::{index, names};
 use super::Script;
 use crate::book::{CELLS, MAKERS};
-use crate::figuring::{standard, Figures, Mg, FIRST_YEAR};
+use crate::figuring::{standard, Figures, Mg, FIRST_YEAR, MAX_CF, MAX_FCL, MAX_LIFE, MAX_VOLUME};
 use crate::postings::{Application, Call, Filing, Retirement, Trade};
 
 impl Script {
@@ -30,7 +30,7 @@ impl Script {
         self.say(Call::File(filing));
     }
 
-    /// A plausible filing but for one figure at or one step outside a limit.
+    /// A plausible filing but for one figure at or one step beside a limit.
     fn filing_at_a_limit(&mut self) -> Option<Call> {
         let Some(Call::File(mut filing)) = self.plausible_filing() else {
             return None;
@@ -44,14 +44,22 @@ impl Script {
                 low - outside
             }
         };
-        match self.rng.below(5) {
-            0 => filing.figures.fcl = edge(1, 1_200),
-            1 => filing.figures.cf = edge(1, 100_000),
-            2 => filing.figures.volume = edge(1, 100_000),
-            3 => filing.figures.life = edge(1, 500),
+        match self.rng.below(6) {
+            0 => filing.figures.fcl = edge(1, MAX_FCL),
+            1 | 2 => filing.figures.cf = self.telling_cf(),
+            3 => filing.figures.volume = edge(1, MAX_VOLUME),
+            4 => filing.figures.life = edge(1, MAX_LIFE),
             _ => filing.family = 63 + outside,
         }
         Some(Call::File(filing))
+    }
+
+    /// A CF at an end of its limits or one step beside it, or where they ended
+    /// while CF had four decimals.
+    fn telling_cf(&mut self) -> u64 {
+        let old_end = MAX_CF / 10;
+        let telling = [0, 1, old_end, old_end + 1, MAX_CF - 1, MAX_CF, MAX_CF + 1];
+        telling[self.rng.index(telling.len())]
     }
 
     /// An application with an amount at or one step above the lot or the
@@ -98,10 +106,10 @@ impl Script {
             usage: self.near(0, 1),
             family: self.near(0, 63),
             figures: Figures {
-                fcl: self.near(1, 1_200),
-                cf: self.near(1, 100_000),
-                volume: self.near(1, 100_000),
-                life: self.near(1, 500),
+                fcl: self.near(1, MAX_FCL),
+                cf: self.near(1, MAX_CF),
+                volume: self.near(1, MAX_VOLUME),
+                life: self.near(1, MAX_LIFE),
             },
         }
     }

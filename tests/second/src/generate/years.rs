@@ -3,8 +3,8 @@
 use super::Script;
 use crate::book::{cell, CELLS, FAMILIES, MAKERS, SETS};
 use crate::figuring::{
-    is_live, is_open, standard, Figures, Mg, ALL_CLOSED, FIRST_YEAR, MAX_CF, MAX_LIFE, MAX_VOLUME,
-    YEARS,
+    is_live, is_open, standard, Figures, Mg, ALL_CLOSED, FIRST_YEAR, HALF_A_MG, MAX_CF, MAX_LIFE,
+    MAX_VOLUME, PARTS_IN_A_MG, YEARS,
 };
 use crate::postings::{Application, Call, Filing, Retirement, Trade};
 
@@ -64,13 +64,13 @@ impl Script {
         let leaning = self.leaning[cell_named];
         let level = i64::from(standard) + leaning + self.rng.below(11) as i64 - 5;
         let (cf, life) = match set {
-            0 => (self.rng.between(11_000, 14_000), 110),
+            0 => (self.rng.between(110_000, 140_000), 110),
             1 => (
-                self.rng.between(14_000, 18_000),
+                self.rng.between(140_000, 180_000),
                 if year < 2021 { 110 } else { 150 },
             ),
-            2 => (self.rng.between(17_000, 22_000), 185),
-            _ => (self.rng.between(26_000, 31_000), 435),
+            2 => (self.rng.between(170_000, 220_000), 185),
+            _ => (self.rng.between(260_000, 310_000), 435),
         };
         Some(Call::File(Filing {
             maker,
@@ -206,9 +206,10 @@ impl Script {
 
     /// Files up to three more families so that a cell's sum lies at a half or
     /// one unit beside it: after an even Mg or after an odd one, above zero or
-    /// below. Once in three times the whole sum comes to 5 or 15 million.
+    /// below. Once in three times the whole sum comes to half a Mg or to one
+    /// and a half.
     pub(super) fn land_on_a_half(&mut self) {
-        let half: i64 = [5_000_000, 15_000_000, -5_000_000, -15_000_000][self.rng.index(4)];
+        let half = [1, 3, -1, -3][self.rng.index(4)] * HALF_A_MG;
         let beside = [-1, 0, 0, 1][self.rng.index(4)];
         let first = self.rng.index(CELLS);
         let cell_named = (first..first + CELLS)
@@ -224,15 +225,22 @@ impl Script {
         let over = if self.rng.once_in(3) && sum.unsigned_abs() < MAX_LIFE * STEP {
             sum
         } else {
-            sum % 20_000_000
+            sum % (2 * PARTS_IN_A_MG)
         };
         let missing = half + beside - over;
         let size = missing.unsigned_abs();
         let level = i64::from(standard) - missing.signum();
+        let rest = size % STEP;
+        // Large enough that the volume keeps its limit; what is left, less
+        // than it, is the last family's CF.
+        let cf = match self.rng.below(4) {
+            0 => MAX_CF,
+            _ => self.rng.between(rest.div_ceil(MAX_VOLUME).max(1), MAX_CF),
+        };
         for (cf, volume, life) in [
             (MAX_CF, MAX_VOLUME, size / STEP),
-            (MAX_CF, size % STEP / MAX_CF, 1),
-            (size % MAX_CF, 1, 1),
+            (cf, rest / cf, 1),
+            (rest % cf, 1, 1),
         ] {
             let free = (!self.book.marks[cell_named]).trailing_zeros();
             if cf == 0 || volume == 0 || life == 0 || free == 64 {

@@ -3,6 +3,7 @@ use Prim.Native.Nat.{_-_}
 use mathlib.Core.Path.{_≡_, _∙_, ap}
 use native.Mathlib.Omega.{arith}
 use borrow.Author.Needs.{needs}
+use Rattle.figuring.specs.Units.{engineUnit}
 use Rattle.figuring.specs.Netting.{netOf, earnedOf, shortfallOf}
 use Rattle.book.specs.Sizes.{cells}
 use Rattle.book.specs.Ledger.{cellSum}
@@ -22,8 +23,8 @@ at-loop c = c .before .before .before .before .before
 
 net-is :
     (c : tie.After-net-of Inv-loop μ-loop)
-    → c .net-of .result ≡ netOf (cellSum (at-loop c .before .before .before .args .t1 .parts) (at-loop c .loop .cell))
-net-is c = c .net-of .ensures ∙ ap netOf (c .before .cell-sum .ensures)
+    → c .net-of .result ≡ netOf engineUnit (cellSum (at-loop c .before .before .before .args .t1 .parts) (at-loop c .loop .cell))
+net-is c = c .net-of .ensures ∙ ap (netOf engineUnit) (c .before .cell-sum .ensures)
 
 sub-i : tie.Need-sub-i Inv-loop μ-loop
 sub-i c = omega (arith, sound-is _ (c .pre .0) .low)

@@ -148,10 +148,16 @@ fn aimed_filing(book: &Book, rng: &mut Rng) -> Vec<u64> {
         family as u64,
     ];
     for most in [MAX_FCL, MAX_CF, MAX_VOLUME, MAX_LIFE] {
-        words.push(match rng.below(8) {
-            0 => 1,
-            1 => most,
-            2 => rng.between(430, 630).min(most),
+        words.push(match rng.below(40) {
+            0 => 0,
+            1 => most + 1,
+            2..=5 => 1,
+            6..=9 => most,
+            10 | 11 => most - 1,
+            // Where the limit of CF was while it had four decimals.
+            12..=15 => most / 10 + rng.below(2),
+            // Beside the standards.
+            16..=19 => rng.between(430, 630).min(most),
             _ => rng.between(1, most),
         });
     }

@@ -4,7 +4,9 @@ use crate::calls::any;
 use second::book::{
     cell, Book, CELLS, FAMILIES, LOTS_LIMIT, MAKERS, PART_LIMIT, SETS, SHORTAGE_LIMIT,
 };
-use second::figuring::{Mg, Part, ALL_CLOSED, FIRST_YEAR, LAST_YEAR, YEARS};
+use second::figuring::{
+    Mg, Part, ALL_CLOSED, FIRST_YEAR, HALF_A_MG, LAST_YEAR, PARTS_IN_A_MG, YEARS,
+};
 use second::generate::rng::Rng;
 
 /// How a book is made.
@@ -119,24 +121,29 @@ fn sound_mark(rng: &mut Rng) -> u64 {
 fn sound_parts(rng: &mut Rng, mark: u64) -> [Part; FAMILIES] {
     let limit = PART_LIMIT as i64;
     // Room for the one part that brings the sum near a half.
-    let room = limit - 10_000_000;
+    let room = limit - PARTS_IN_A_MG;
     let style = rng.below(5);
     let mut parts = [Part(0); FAMILIES];
     for family in (0..FAMILIES).filter(|family| mark >> family & 1 == 1) {
         parts[family] = Part(match style {
             0 => limit,
             1 => -limit,
-            2 => rng.below(20_000_001) as i64 - 10_000_000,
-            _ => rng.below(2 * room as u64 + 1) as i64 - room,
+            2 => up_to(rng, PARTS_IN_A_MG),
+            _ => up_to(rng, room),
         });
     }
     let first = mark.trailing_zeros() as usize;
     if style >= 2 && first < FAMILIES && !rng.once_in(4) {
         let sum: i64 = parts.iter().map(|part| part.0).sum();
-        let near = 5_000_000 + rng.below(3) as i64 - 1;
-        parts[first].0 += near - sum.rem_euclid(10_000_000);
+        let near = HALF_A_MG + up_to(rng, 1);
+        parts[first].0 += near - sum.rem_euclid(PARTS_IN_A_MG);
     }
     parts
+}
+
+/// A number whose size is at most `most`.
+fn up_to(rng: &mut Rng, most: i64) -> i64 {
+    rng.below(2 * most as u64 + 1) as i64 - most
 }
 
 /// Shares out an amount up to the limit among the makers.

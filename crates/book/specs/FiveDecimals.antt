@@ -1,0 +1,102 @@
+-- Card 4 for whole sessions: "The Mg of every old figure are the same once its CF is multiplied by 10." A session under
+-- the rules before the card, document 01's with cards 1 to 3, stands beside the same calls, restated, under the rules of
+-- now. `SameSessions` is the statement; the proofs are in proofs/Restated.antt.
+use Prim.Native.Nat.{ℕ, _+_, _*_}
+use mathlib.Core.Bool.{Bool, _&&_, cond}
+use mathlib.Core.List.{List, [], _∷_, _++_, map}
+use mathlib.Core.Path.{_≡_}
+use lib.Dec.{leb}
+use lib.IntN.{ℤ, pos, natAbs, _*ℤ_}
+use lib.ListN.{getD}
+use Rattle.figuring.specs.Parts.{cfMost}
+use Rattle.figuring.specs.FiveDecimals.{finer, oldCfMost, oldUnit, oldPartMost}
+use Rattle.book.specs.Sizes.{allParts}
+use Rattle.book.specs.Below.{allBelow}
+use Rattle.book.specs.Soundness.{sound}
+use Rattle.book.specs.Refusals.{firstRefusal}
+use Rattle.book.specs.Postings.{freshBook, withFamilies, closedIn}
+use Rattle.book.specs.Rules.{headRows, ownRows, done, outcome, posted}
+use Rattle.book.specs.declared.ledger.Book.{Book}
+use Rattle.book.specs.declared.kinds.Call.{Call}
+use Rattle.book.specs.declared.kinds.Filing.{Filing}
+use Rattle.book.specs.declared.answers.Answer.{Answer}
+use Rattle.book.specs.declared.answers.Answer.the-variants.{Refused, Filed, Closed, Left}
+use Rattle.book.specs.declared.answers.Posted.{Posted}
+
+-- a filing with another CF, and all else as it is
+abbrev pub withCf : Filing → ℕ → Filing
+withCf f cf =
+    record {
+      maker = f .maker;
+      set = f .set;
+      year = f .year;
+      «vehicle_use» = f .«vehicle_use»;
+      family = f .family;
+      fcl = f .fcl;
+      cf = cf;
+      volume = f .volume;
+      life = f .life;
+    }
+
+-- a call in which a filing's CF is what g makes of it
+abbrev pub onCf : (ℕ → ℕ) → Call → Call
+onCf g (Call.File f) = Call.File (withCf f (g (f .cf)))
+onCf g (Call.Close y) = Call.Close y
+onCf g (Call.Trade t) = Call.Trade t
+onCf g (Call.Apply p) = Call.Apply p
+onCf g (Call.Retire p) = Call.Retire p
+
+-- ---- the rules before the card: those of now, but for the bound of a part, the limit of CF and the unit of a close
+
+-- "every part within ±3.84 × 10^15", which is less than now
+abbrev pub oldSound : Book → Bool
+oldSound b = sound b && allBelow allParts (λ i. leb (natAbs (getD (b .parts) i (pos 0))) oldPartMost)
+
+-- "CF (.., 1-100,000)": one above that was out of its limits, as one above the present most is
+abbrev pub oldLimits : Call → Call
+oldLimits = onCf (λ cf. cond (leb cf oldCfMost) cf (cfMost + 1))
+
+-- a close rounded parts "in units of 10^-7 Mg"
+abbrev pub oldDone : Book → Call → Posted
+oldDone b (Call.File f) = done b (Call.File f)
+oldDone b (Call.Close y) = closedIn oldUnit b
+oldDone b (Call.Trade t) = done b (Call.Trade t)
+oldDone b (Call.Apply p) = done b (Call.Apply p)
+oldDone b (Call.Retire p) = done b (Call.Retire p)
+
+unfoldable pub oldPosted : Book → Call → Posted
+oldPosted b c = outcome (firstRefusal (headRows (oldSound b) ++ ownRows b (oldLimits c))) b (oldDone b c)
+
+-- ---- restated: "CF .. multiplied by 10", and with it every part. Mg and all else are as they were
+
+abbrev pub restatedCall : Call → Call
+restatedCall = onCf (λ cf. cf * finer)
+
+abbrev pub restatedPart : ℤ → ℤ
+restatedPart z = z *ℤ pos finer
+
+abbrev pub restatedBook : Book → Book
+restatedBook b = withFamilies b (b .marks) (map restatedPart (b .parts))
+
+abbrev pub restatedAnswer : Answer → Answer
+restatedAnswer (Refused r) = Refused r
+restatedAnswer (Filed p n) = Filed (record { 0 = restatedPart (p .0) }) n
+restatedAnswer (Closed n) = Closed n
+restatedAnswer (Left m) = Left m
+
+-- ---- the promise
+
+-- Two sessions of the same calls, each call put to the book that the one before left: the old one, and the restated one.
+-- At every point their books are the same, open year, marks, lots and shortages, and so is every answer, its refusal and
+-- its Mg; only parts are ten times as large.
+abbrev pub SideBySide : Book → Book → List Call → Type 0
+SideBySide old new [] = new ≡ restatedBook old
+SideBySide old new (c ∷ cs) =
+    (new ≡ restatedBook old)
+    × (posted new (restatedCall c) .answer ≡ restatedAnswer (oldPosted old c .answer))
+    × SideBySide (oldPosted old c .book) (posted new (restatedCall c) .book) cs
+
+pub record SameSessions : Type 0 where
+  pub fresh : (cs : List Call) → SideBySide freshBook freshBook cs
+  -- from any book, sound or not, that is restated as its calls are
+  pub any : (b : Book) (cs : List Call) → SideBySide b (restatedBook b) cs

@@ -1,0 +1,77 @@
+-- Card 4, "Five decimals of CF": its figures, and its promise of those of document 01, which counted CF in
+-- ten-thousandths and a part in units of 10^-7 Mg.
+-- "The Mg of every old figure are the same once its CF is multiplied by 10."
+use Prim.Native.Nat.{ℕ, _*_}
+use mathlib.Core.Bool.{Bool, true, false, _&&_}
+use mathlib.Core.List.{List, [], _∷_, map}
+use mathlib.Core.Path.{_≡_}
+use lib.Dec.{leb}
+use lib.IntN.{ℤ, pos, natAbs, _+ℤ_, _*ℤ_}
+use Rattle.figuring.specs.Units.{engineUnit}
+use Rattle.figuring.specs.Parts.{cfMost, volumeMost, lifeMost, partMost, between, withinLimits, partOf}
+use Rattle.figuring.specs.Netting.{halfMg, netOf}
+
+-- ---- the card's figures: CF "1 to 1,000,000", "a half is now 50,000,000", and the bound of a part, which the limits give
+pub record CardFigures : Type 0 where
+  pub cf : (between 1 cfMost 0 ≡ false) × (between 1 cfMost 1 ≡ true)
+  pub cf-most : (between 1 cfMost 1000000 ≡ true) × (between 1 cfMost 1000001 ≡ false)
+  pub half : halfMg engineUnit ≡ 50000000
+  pub bound : partMost ≡ 768 * cfMost * volumeMost * lifeMost
+
+-- ---- document 01's figures that the card replaces; nothing but its promise names them
+
+-- "CF (.., ten-thousandths of a hp-hr per mile, 1-100,000)"
+abbrev pub oldCfMost : ℕ
+oldCfMost = 100000
+
+-- "in units of 10^-7 Mg"
+abbrev pub oldUnit : ℕ
+oldUnit = 10000000
+
+-- "every part within ±3.84 × 10^15"
+abbrev pub oldPartMost : ℕ
+oldPartMost = 3840000000000000
+
+-- ---- the promise
+
+-- how many times as fine CF and parts are counted
+abbrev pub finer : ℕ
+finer = 10
+
+-- a family's four figures, and the standard it is held to
+pub record Figures : Type 0 where
+  pub standard : ℕ
+  pub fcl : ℕ
+  pub cf : ℕ
+  pub volume : ℕ
+  pub life : ℕ
+
+-- FCL, volume and life as they are, "its CF .. multiplied by 10"
+abbrev pub restated : Figures → Figures
+restated f =
+    record { standard = f .standard; fcl = f .fcl; cf = f .cf * finer; volume = f .volume; life = f .life }
+
+abbrev pub within : Figures → Bool
+within f = withinLimits (f .fcl) (f .cf) (f .volume) (f .life)
+
+-- within document 01's limits: they are the present ones, with CF up to its own most
+abbrev pub withinOld : Figures → Bool
+withinOld f = within f && leb (f .cf) oldCfMost
+
+abbrev pub partFrom : Figures → ℤ
+partFrom f = partOf (f .standard) (f .fcl) (f .cf) (f .volume) (f .life)
+
+-- the parts of families, added exactly
+abbrev pub sumFrom : List Figures → ℤ
+sumFrom [] = pos 0
+sumFrom (f ∷ fs) = partFrom f +ℤ sumFrom fs
+
+pub record SameMg : Type 0 where
+  -- a family is within the limits exactly when it was
+  pub limits : (f : Figures) → within (restated f) ≡ withinOld f
+  -- its part is ten times the old one
+  pub part : (f : Figures) → partFrom (restated f) ≡ partFrom f *ℤ pos finer
+  -- such a part is within its bound exactly when the old one was within its own
+  pub bound : (z : ℤ) → leb (natAbs (z *ℤ pos finer)) partMost ≡ leb (natAbs z) oldPartMost
+  -- the families' sum nets in the new unit to what the old sum nets in the old unit: surplus, shortage or neither
+  pub net : (fs : List Figures) → netOf engineUnit (sumFrom (map restated fs)) ≡ netOf oldUnit (sumFrom fs)

@@ -1,6 +1,6 @@
--- Card 4 for whole sessions: what the rules of now make of a book and a call restated is what document 01's made of them,
--- restated. Nothing here looks into a limit, a bound or the rounding: figuring's FineLaws say what each makes of a figure
--- ten times as large.
+-- Card 4 for whole sessions: what the rules of now make of a book and a call restated is what those with document 01's
+-- figures make of them, restated. Nothing here looks into a limit, a bound or the rounding: figuring's FineLaws say what
+-- each makes of a figure ten times as large.
 use Prim.Native.Nat.{ℕ, zero, suc, _+_, _*_, _-_, _/_, _%_, _<_, _≤_}
 use mathlib.Core.Bool.{Bool, true, false}
 use mathlib.Core.List.{List, [], _∷_, _++_, map}
@@ -20,13 +20,13 @@ use Rattle.figuring.proofs.SignedLaws.{abs-mul, add-mul}
 use Rattle.figuring.proofs.FineLaws.{limits-old, part-finer, bound-finer, net-finer}
 use Rattle.book.specs.Sizes.{cells, families, allParts}
 use Rattle.book.specs.Below.{allBelow, countBelow, sumBelowℤ}
-use Rattle.book.specs.Ledger.{partAt, cellSum}
-use Rattle.book.specs.Soundness.{sound}
+use Rattle.book.specs.Ledger.{marked, partAt, cellSum}
+use Rattle.book.specs.Soundness.{sound, partSound}
 use Rattle.book.specs.Refusals.{Row, firstRefusal}
 use Rattle.book.specs.Postings.{freshBook, partFor, filingCell, stored, cellNet, netted, closeDone}
 use Rattle.book.specs.Postings.{tradeDone, applicationDone, retirementDone}
 use Rattle.book.specs.Rules.{headRows, fileRows, ownRows, table, done, outcome, posted}
-use Rattle.book.specs.FiveDecimals.{oldSound, oldLimits, oldDone, oldPosted, SideBySide, SameSessions}
+use Rattle.book.specs.FiveDecimals.{oldSound, oldLimits, oldDone, oldPosted, SideBySide, SameSessions, SoundParts}
 use Rattle.book.specs.FiveDecimals.{restatedCall, restatedPart, restatedBook, restatedAnswer}
 use Rattle.book.specs.declared.ledger.Book.{Book}
 use Rattle.book.specs.declared.kinds.Call.{Call}
@@ -36,6 +36,10 @@ use Rattle.book.specs.declared.answers.Verdict.{Verdict}
 use Rattle.book.specs.declared.answers.Verdict.the-variants.{Accepted, Refuse}
 use Rattle.book.proofs.BelowLaws.{all-at, all-of}
 use Rattle.book.proofs.SoundnessLaws.{Sound, sound-is, is-sound, zero-is}
+
+pub sound-parts : SoundParts
+unfolding partSound marked
+sound-parts = record { above = (refl, refl); below = (refl, refl) }
 
 -- what a call gives, restated
 abbrev restatedPosted : Posted → Posted
@@ -70,7 +74,7 @@ zero-restated : (z : ℤ) → restatedPart z ≡ pos 0 → z ≡ pos 0
 zero-restated z e = zero-is z (omega (arith, abs-mul z finer, ap natAbs e))
 
 module _ (b : Book) where
-  -- document 01's bound of a part, wherever it stands
+  -- document 01's bound of a part, at any place of the list
   abbrev OldBound : ℕ → Bool
   OldBound i = leb (natAbs (getD (b .parts) i (pos 0))) oldPartMost
 

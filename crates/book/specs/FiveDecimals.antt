@@ -1,18 +1,19 @@
--- Card 4 for whole sessions: "The Mg of every old figure are the same once its CF is multiplied by 10." A session under
--- the rules before the card, document 01's with cards 1 to 3, stands beside the same calls, restated, under the rules of
--- now. `SameSessions` is the statement; the proofs are in proofs/Restated.antt.
-use Prim.Native.Nat.{ℕ, _+_, _*_}
-use mathlib.Core.Bool.{Bool, _&&_, cond}
+-- Card 4 for whole books and sessions: "The Mg of every old figure are the same once its CF is multiplied by 10". The
+-- rules with document 01's figures of CF and parts, as they were before the card, stand beside those of now, and a
+-- session under the one beside the same calls, restated, under the other. `SameSessions` is the statement; the proofs are
+-- in proofs/Restated.antt.
+use Prim.Native.Nat.{ℕ, _*_}
+use mathlib.Core.Bool.{Bool, true, false, _&&_}
 use mathlib.Core.List.{List, [], _∷_, _++_, map}
 use mathlib.Core.Path.{_≡_}
 use lib.Dec.{leb}
 use lib.IntN.{ℤ, pos, natAbs, _*ℤ_}
 use lib.ListN.{getD}
-use Rattle.figuring.specs.Parts.{cfMost}
-use Rattle.figuring.specs.FiveDecimals.{finer, oldCfMost, oldUnit, oldPartMost}
+use Rattle.figuring.specs.Units.{neg}
+use Rattle.figuring.specs.FiveDecimals.{finer, oldCf, oldUnit, oldPartMost}
 use Rattle.book.specs.Sizes.{allParts}
 use Rattle.book.specs.Below.{allBelow}
-use Rattle.book.specs.Soundness.{sound}
+use Rattle.book.specs.Soundness.{sound, partSound}
 use Rattle.book.specs.Refusals.{firstRefusal}
 use Rattle.book.specs.Postings.{freshBook, withFamilies, closedIn}
 use Rattle.book.specs.Rules.{headRows, ownRows, done, outcome, posted}
@@ -22,6 +23,11 @@ use Rattle.book.specs.declared.kinds.Filing.{Filing}
 use Rattle.book.specs.declared.answers.Answer.{Answer}
 use Rattle.book.specs.declared.answers.Answer.the-variants.{Refused, Filed, Closed, Left}
 use Rattle.book.specs.declared.answers.Posted.{Posted}
+
+-- the card's bound, at its ends: "A sound part lies within ±3.84 × 10^16" (of a family that is filed)
+pub record SoundParts : Type 0 where
+  pub above : (partSound 1 0 (pos 38400000000000000) ≡ true) × (partSound 1 0 (pos 38400000000000001) ≡ false)
+  pub below : (partSound 1 0 (neg 38400000000000000) ≡ true) × (partSound 1 0 (neg 38400000000000001) ≡ false)
 
 -- a filing with another CF, and all else as it is
 abbrev pub withCf : Filing → ℕ → Filing
@@ -46,15 +52,16 @@ onCf g (Call.Trade t) = Call.Trade t
 onCf g (Call.Apply p) = Call.Apply p
 onCf g (Call.Retire p) = Call.Retire p
 
--- ---- the rules before the card: those of now, but for the bound of a part, the limit of CF and the unit of a close
+-- ---- the rules with document 01's figures: those of now, but for the bound of a part, the limit of CF and the unit of
+-- a close
 
 -- "every part within ±3.84 × 10^15", which is less than now
 abbrev pub oldSound : Book → Bool
 oldSound b = sound b && allBelow allParts (λ i. leb (natAbs (getD (b .parts) i (pos 0))) oldPartMost)
 
--- "CF (.., 1-100,000)": one above that was out of its limits, as one above the present most is
+-- "CF (.., 1-100,000)"
 abbrev pub oldLimits : Call → Call
-oldLimits = onCf (λ cf. cond (leb cf oldCfMost) cf (cfMost + 1))
+oldLimits = onCf oldCf
 
 -- a close rounded parts "in units of 10^-7 Mg"
 abbrev pub oldDone : Book → Call → Posted

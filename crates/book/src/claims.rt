@@ -9,7 +9,7 @@ ghost use Rattle.book.specs.Demand1.{Demand1};
 ghost use Rattle.book.specs.Demand3.{Demand3};
 ghost use Rattle.book.specs.Companions.{KeepsSound, NeverUnsound, Stays, StrikeOut};
 ghost use Rattle.book.specs.FilingOrder.{FilingOrder, EachAlone, SaysNoLess};
-ghost use Rattle.book.specs.FiveDecimals.{SameSessions};
+ghost use Rattle.book.specs.FiveDecimals.{SameSessions, SoundParts};
 ghost use Rattle.book.specs.Marked.{MarkedFigures};
 ghost use Rattle.book.specs.EachAccount.{EachAccount};
 ghost use Rattle.book.specs.declared.ledger.Book.{Book};
@@ -100,9 +100,10 @@ pub fn says_no_less() -> bool
     true
 }
 
-// Card 4: a session restated, CF times 10, is answered as it was, and leaves the same lots and shortages.
+// Card 4: its bound of a part; and that a session restated, CF times 10, is answered as it was, and leaves the same lots
+// and shortages.
 pub fn same_sessions() -> bool
-    ensures { λ r. ⌜ (r ≡ true) × SameSessions ⌝ }
+    ensures { λ r. ⌜ (r ≡ true) × SoundParts × SameSessions ⌝ }
 {
     true
 }

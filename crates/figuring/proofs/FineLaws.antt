@@ -10,14 +10,18 @@ use lib.IntN.{ℤ, pos, negsuc, negℤ, natAbs, _-ℤ_, _*ℤ_, zero-*ℤ}
 use Rattle.figuring.specs.Units.{engineUnit}
 use Rattle.figuring.specs.Parts.{fclMost, cfMost, volumeMost, lifeMost, partMost, between, withinLimits, partOf}
 use Rattle.figuring.specs.Netting.{nearest, shortage, surplus, netOf}
-use Rattle.figuring.specs.FiveDecimals.{CardFigures, SameMg, Figures, finer, oldCfMost, oldUnit, oldPartMost}
+use Rattle.figuring.specs.FiveDecimals.{CardFigures, OldFigures, SameMg, Figures, finer, oldCfMost, oldCf, oldUnit, oldPartMost}
 use Rattle.figuring.specs.FiveDecimals.{restated, partFrom, sumFrom}
 use Rattle.figuring.proofs.SignedLaws.{abs-mul, mul-mul, add-mul}
 use Rattle.figuring.proofs.NearestLaws.{HasHalf, nearest-finer}
 
 pub card-figures : CardFigures
-unfolding between
+unfolding withinLimits between
 card-figures = record { cf = (refl, refl); cf-most = (refl, refl); half = refl; bound = refl }
+
+pub old-figures : OldFigures
+unfolding withinLimits between netOf nearest
+old-figures = record { cf = (refl, refl); half-even = refl; half-odd = refl; half-below = refl }
 
 -- ---- limits
 -- a test "at most" of ten times a number
@@ -66,10 +70,7 @@ module _ (fcl cf volume life : ℕ) where
   unfolding withinLimits between
   too-much = and-false (leb 1 fcl && leb fcl fclMost)
 
-  -- the same, of a CF that is put above the present most where it is above the old one
-  pub limits-old :
-      withinLimits fcl (cf * finer) volume life
-      ≡ withinLimits fcl (cond (leb cf oldCfMost) cf (cfMost + 1)) volume life
+  pub limits-old : withinLimits fcl (cf * finer) volume life ≡ withinLimits fcl (oldCf cf) volume life
   limits-old = limits-finer ∙ go (leb cf oldCfMost)
     where
       go :
@@ -115,7 +116,7 @@ net-finer (negsuc n) =
 pub same-mg : SameMg
 same-mg =
     record {
-      limits = λ f. limits-finer (f .fcl) (f .cf) (f .volume) (f .life);
+      limits = λ f. limits-old (f .fcl) (f .cf) (f .volume) (f .life);
       part = part;
       bound = bound-finer;
       net = λ fs. ap (netOf engineUnit) (sum-finer fs) ∙ net-finer (sumFrom fs);

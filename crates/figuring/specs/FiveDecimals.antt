@@ -1,20 +1,21 @@
 -- Card 4, "Five decimals of CF": its figures, and its promise of those of document 01, which counted CF in
 -- ten-thousandths and a part in units of 10^-7 Mg.
--- "The Mg of every old figure are the same once its CF is multiplied by 10."
-use Prim.Native.Nat.{ℕ, _*_}
-use mathlib.Core.Bool.{Bool, true, false, _&&_}
+-- "The Mg of every old figure are the same once its CF is multiplied by 10".
+use Prim.Native.Nat.{ℕ, _+_, _*_}
+use mathlib.Core.Bool.{Bool, true, false, cond}
 use mathlib.Core.List.{List, [], _∷_, map}
 use mathlib.Core.Path.{_≡_}
 use lib.Dec.{leb}
 use lib.IntN.{ℤ, pos, natAbs, _+ℤ_, _*ℤ_}
-use Rattle.figuring.specs.Units.{engineUnit}
-use Rattle.figuring.specs.Parts.{cfMost, volumeMost, lifeMost, partMost, between, withinLimits, partOf}
+use Rattle.figuring.specs.Units.{engineUnit, neg}
+use Rattle.figuring.specs.Parts.{cfMost, volumeMost, lifeMost, partMost, withinLimits, partOf}
 use Rattle.figuring.specs.Netting.{halfMg, netOf}
+use Rattle.figuring.specs.declared.netting.Net.the-variants.{Surplus, Neither}
 
 -- ---- the card's figures: CF "1 to 1,000,000", "a half is now 50,000,000", and the bound of a part, which the limits give
 pub record CardFigures : Type 0 where
-  pub cf : (between 1 cfMost 0 ≡ false) × (between 1 cfMost 1 ≡ true)
-  pub cf-most : (between 1 cfMost 1000000 ≡ true) × (between 1 cfMost 1000001 ≡ false)
+  pub cf : (withinLimits 465 0 1000 435 ≡ false) × (withinLimits 465 1 1000 435 ≡ true)
+  pub cf-most : (withinLimits 465 1000000 1000 435 ≡ true) × (withinLimits 465 1000001 1000 435 ≡ false)
   pub half : halfMg engineUnit ≡ 50000000
   pub bound : partMost ≡ 768 * cfMost * volumeMost * lifeMost
 
@@ -24,6 +25,10 @@ pub record CardFigures : Type 0 where
 abbrev pub oldCfMost : ℕ
 oldCfMost = 100000
 
+-- one above that was out of its limits: it is read as one that is above the present most
+abbrev pub oldCf : ℕ → ℕ
+oldCf cf = cond (leb cf oldCfMost) cf (cfMost + 1)
+
 -- "in units of 10^-7 Mg"
 abbrev pub oldUnit : ℕ
 oldUnit = 10000000
@@ -31,6 +36,15 @@ oldUnit = 10000000
 -- "every part within ±3.84 × 10^15"
 abbrev pub oldPartMost : ℕ
 oldPartMost = 3840000000000000
+
+-- as the papers have them: CF 100,000 taken and 100,001 not; and card 3's "5,000,000 gives 0, 15,000,000 gives 2,
+-- -5,000,000 gives 0"
+pub record OldFigures : Type 0 where
+  pub cf :
+      (withinLimits 465 (oldCf 100000) 1000 435 ≡ true) × (withinLimits 465 (oldCf 100001) 1000 435 ≡ false)
+  pub half-even : netOf oldUnit (pos 5000000) ≡ Neither
+  pub half-odd : netOf oldUnit (pos 15000000) ≡ Surplus (record { 0 = 2 })
+  pub half-below : netOf oldUnit (neg 5000000) ≡ Neither
 
 -- ---- the promise
 
@@ -54,9 +68,9 @@ restated f =
 abbrev pub within : Figures → Bool
 within f = withinLimits (f .fcl) (f .cf) (f .volume) (f .life)
 
--- within document 01's limits: they are the present ones, with CF up to its own most
+-- within document 01's limits: those of now, but for CF
 abbrev pub withinOld : Figures → Bool
-withinOld f = within f && leb (f .cf) oldCfMost
+withinOld f = withinLimits (f .fcl) (oldCf (f .cf)) (f .volume) (f .life)
 
 abbrev pub partFrom : Figures → ℤ
 partFrom f = partOf (f .standard) (f .fcl) (f .cf) (f .volume) (f .life)

@@ -37,8 +37,8 @@ oldUnit = 10000000
 abbrev pub oldPartMost : ℕ
 oldPartMost = 3840000000000000
 
--- as the papers have them: CF 100,000 taken and 100,001 not; and card 3's "5,000,000 gives 0, 15,000,000 gives 2,
--- -5,000,000 gives 0"
+-- as the papers have them: CF 100,000 taken and 100,001 not; and card 3's "5,000,000 units give 0, 15,000,000 give 2,
+-- -5,000,000 give 0"
 pub record OldFigures : Type 0 where
   pub cf :
       (withinLimits 465 (oldCf 100000) 1000 435 ≡ true) × (withinLimits 465 (oldCf 100001) 1000 435 ≡ false)

@@ -14,7 +14,7 @@ use Rattle.figuring.specs.Years.{firstYear}
 use Rattle.figuring.specs.Units.{engineUnit}
 use Rattle.figuring.specs.Parts.{partMost}
 use Rattle.figuring.specs.Netting.{netOf, earnedOf, shortfallOf}
-use Rattle.figuring.specs.FiveDecimals.{finer, oldUnit, oldPartMost}
+use Rattle.figuring.specs.FiveDecimals.{finer, oldUnit, oldPartMost, restatedPart}
 use Rattle.figuring.proofs.BoolLaws.{both, and-intro}
 use Rattle.figuring.proofs.SignedLaws.{abs-mul, add-mul}
 use Rattle.figuring.proofs.FineLaws.{limits-old, part-finer, bound-finer, net-finer}
@@ -27,7 +27,7 @@ use Rattle.book.specs.Postings.{freshBook, partFor, filingCell, stored, 
 use Rattle.book.specs.Postings.{tradeDone, applicationDone, retirementDone}
 use Rattle.book.specs.Rules.{headRows, fileRows, ownRows, table, done, outcome, posted}
 use Rattle.book.specs.FiveDecimals.{oldSound, oldLimits, oldDone, oldPosted, SideBySide, SameSessions, SoundParts}
-use Rattle.book.specs.FiveDecimals.{restatedCall, restatedPart, restatedBook, restatedAnswer}
+use Rattle.book.specs.FiveDecimals.{restatedCall, restatedBook, restatedAnswer}
 use Rattle.book.specs.declared.ledger.Book.{Book}
 use Rattle.book.specs.declared.kinds.Call.{Call}
 use Rattle.book.specs.declared.answers.Answer.{Answer}

@@ -2,15 +2,15 @@
 -- rules with document 01's figures of CF and parts, as they were before the card, stand beside those of now, and a
 -- session under the one beside the same calls, restated, under the other. `SameSessions` is the statement; the proofs are
 -- in proofs/Restated.antt.
-use Prim.Native.Nat.{ℕ, _*_}
+use Prim.Native.Nat.{ℕ}
 use mathlib.Core.Bool.{Bool, true, false, _&&_}
 use mathlib.Core.List.{List, [], _∷_, _++_, map}
 use mathlib.Core.Path.{_≡_}
 use lib.Dec.{leb}
-use lib.IntN.{ℤ, pos, natAbs, _*ℤ_}
+use lib.IntN.{pos, natAbs}
 use lib.ListN.{getD}
 use Rattle.figuring.specs.Units.{neg}
-use Rattle.figuring.specs.FiveDecimals.{finer, oldCf, oldUnit, oldPartMost}
+use Rattle.figuring.specs.FiveDecimals.{oldCf, oldUnit, oldPartMost, restatedCf, restatedPart}
 use Rattle.book.specs.Sizes.{allParts}
 use Rattle.book.specs.Below.{allBelow}
 use Rattle.book.specs.Soundness.{sound, partSound}
@@ -77,10 +77,7 @@ oldPosted b c = outcome (firstRefusal (headRows (oldSound b) ++ ownRows b (oldLi
 -- ---- restated: "CF .. multiplied by 10", and with it every part. Mg and all else are as they were
 
 abbrev pub restatedCall : Call → Call
-restatedCall = onCf (λ cf. cf * finer)
-
-abbrev pub restatedPart : ℤ → ℤ
-restatedPart z = z *ℤ pos finer
+restatedCall = onCf restatedCf
 
 abbrev pub restatedBook : Book → Book
 restatedBook b = withFamilies b (b .marks) (map restatedPart (b .parts))

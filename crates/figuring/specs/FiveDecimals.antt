@@ -52,6 +52,13 @@ pub record OldFigures : Type 0 where
 abbrev pub finer : ℕ
 finer = 10
 
+-- "its CF .. multiplied by 10", and with it every part
+abbrev pub restatedCf : ℕ → ℕ
+restatedCf cf = cf * finer
+
+abbrev pub restatedPart : ℤ → ℤ
+restatedPart z = z *ℤ pos finer
+
 -- a family's four figures, and the standard it is held to
 pub record Figures : Type 0 where
   pub standard : ℕ
@@ -60,10 +67,10 @@ pub record Figures : Type 0 where
   pub volume : ℕ
   pub life : ℕ
 
--- FCL, volume and life as they are, "its CF .. multiplied by 10"
+-- FCL, volume and life as they are
 abbrev pub restated : Figures → Figures
 restated f =
-    record { standard = f .standard; fcl = f .fcl; cf = f .cf * finer; volume = f .volume; life = f .life }
+    record { standard = f .standard; fcl = f .fcl; cf = restatedCf (f .cf); volume = f .volume; life = f .life }
 
 abbrev pub within : Figures → Bool
 within f = withinLimits (f .fcl) (f .cf) (f .volume) (f .life)
@@ -84,8 +91,8 @@ pub record SameMg : Type 0 where
   -- a family is within the limits exactly when it was
   pub limits : (f : Figures) → within (restated f) ≡ withinOld f
   -- its part is ten times the old one
-  pub part : (f : Figures) → partFrom (restated f) ≡ partFrom f *ℤ pos finer
+  pub part : (f : Figures) → partFrom (restated f) ≡ restatedPart (partFrom f)
   -- such a part is within its bound exactly when the old one was within its own
-  pub bound : (z : ℤ) → leb (natAbs (z *ℤ pos finer)) partMost ≡ leb (natAbs z) oldPartMost
+  pub bound : (z : ℤ) → leb (natAbs (restatedPart z)) partMost ≡ leb (natAbs z) oldPartMost
   -- the families' sum nets in the new unit to what the old sum nets in the old unit: surplus, shortage or neither
   pub net : (fs : List Figures) → netOf engineUnit (sumFrom (map restated fs)) ≡ netOf oldUnit (sumFrom fs)

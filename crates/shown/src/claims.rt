@@ -1,5 +1,5 @@
 // The claims about what the terminal shows, each a function whose contract is the statement of specs/Shown for every
-// input. A theorem that goes missing or is weakened leaves its function here unproved, so the gate holds it.
+// input. A theorem that goes missing, or is proved of less, leaves its function here unproved, so the gate holds it.
 ghost use Prim.Native.Nat.{ℕ};
 ghost use mathlib.Core.Bool.{true};
 ghost use mathlib.Core.List.{List};

@@ -2,7 +2,7 @@
 -- figures make of them, restated. Nothing here looks into a limit, a bound or the rounding: figuring's FineLaws say what
 -- each makes of a figure ten times as large.
 use Prim.Native.Nat.{ℕ, zero, suc, _+_, _*_, _-_, _/_, _%_, _<_, _≤_}
-use mathlib.Core.Bool.{Bool, true, false}
+use mathlib.Core.Bool.{Bool, true, false, and-true}
 use mathlib.Core.List.{List, [], _∷_, _++_, map}
 use mathlib.Core.Path.{_≡_, refl, sym, _∙_, ap, subst}
 use native.Mathlib.Omega.{arith}
@@ -20,7 +20,7 @@ use Rattle.figuring.proofs.SignedLaws.{abs-mul, add-mul}
 use Rattle.figuring.proofs.FineLaws.{limits-old, part-finer, bound-finer, net-finer}
 use Rattle.book.specs.Sizes.{cells, families, allParts}
 use Rattle.book.specs.Below.{allBelow, countBelow, sumBelowℤ}
-use Rattle.book.specs.Ledger.{marked, partAt, cellSum}
+use Rattle.book.specs.Ledger.{partAt, cellSum}
 use Rattle.book.specs.Soundness.{sound, partSound}
 use Rattle.book.specs.Refusals.{Row, firstRefusal}
 use Rattle.book.specs.Postings.{freshBook, partFor, filingCell, stored, cellNet, netted, closeDone}
@@ -38,8 +38,8 @@ use Rattle.book.proofs.BelowLaws.{all-at, all-of}
 use Rattle.book.proofs.SoundnessLaws.{Sound, sound-is, is-sound, zero-is}
 
 pub sound-parts : SoundParts
-unfolding partSound marked
-sound-parts = record { above = (refl, refl); below = (refl, refl) }
+unfolding partSound
+sound-parts = record { filed = λ mark family z m. rw m (and-true (leb (natAbs z) partMost)) }
 
 -- what a call gives, restated
 abbrev restatedPosted : Posted → Posted

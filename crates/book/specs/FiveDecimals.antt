@@ -7,12 +7,12 @@ use mathlib.Core.Bool.{Bool, true, false, _&&_}
 use mathlib.Core.List.{List, [], _∷_, _++_, map}
 use mathlib.Core.Path.{_≡_}
 use lib.Dec.{leb}
-use lib.IntN.{pos, natAbs}
+use lib.IntN.{ℤ, pos, natAbs}
 use lib.ListN.{getD}
-use Rattle.figuring.specs.Units.{neg}
 use Rattle.figuring.specs.FiveDecimals.{oldCf, oldUnit, oldPartMost, restatedCf, restatedPart}
 use Rattle.book.specs.Sizes.{allParts}
 use Rattle.book.specs.Below.{allBelow}
+use Rattle.book.specs.Ledger.{marked}
 use Rattle.book.specs.Soundness.{sound, partSound}
 use Rattle.book.specs.Refusals.{firstRefusal}
 use Rattle.book.specs.Postings.{freshBook, withFamilies, closedIn}
@@ -24,10 +24,11 @@ use Rattle.book.specs.declared.answers.Answer.{Answer}
 use Rattle.book.specs.declared.answers.Answer.the-variants.{Refused, Filed, Closed, Left}
 use Rattle.book.specs.declared.answers.Posted.{Posted}
 
--- the card's bound, at its ends: "A sound part lies within ±3.84 × 10^16" (of a family that is filed)
+-- the card's bound, of every part of a family that is filed: "A sound part lies within ±3.84 × 10^16"
 pub record SoundParts : Type 0 where
-  pub above : (partSound 1 0 (pos 38400000000000000) ≡ true) × (partSound 1 0 (pos 38400000000000001) ≡ false)
-  pub below : (partSound 1 0 (neg 38400000000000000) ≡ true) × (partSound 1 0 (neg 38400000000000001) ≡ false)
+  pub filed :
+      (mark family : ℕ) (z : ℤ)
+      → marked mark family ≡ true → partSound mark family z ≡ leb (natAbs z) 38400000000000000
 
 -- a filing with another CF, and all else as it is
 abbrev pub withCf : Filing → ℕ → Filing

@@ -1,6 +1,6 @@
 -- Card 4: CF ten times as large, and with it every part and every sum, in a unit ten times as fine.
 use Prim.Native.Nat.{ℕ, zero, suc, _+_, _*_, _<_, _≤_}
-use mathlib.Core.Bool.{Bool, true, false, _&&_, cond}
+use mathlib.Core.Bool.{Bool, true, false, _&&_, cond, and-true, and-false}
 use mathlib.Core.List.{List, [], _∷_, map}
 use mathlib.Core.Path.{_≡_, refl, sym, _∙_, ap}
 use native.Mathlib.Omega.{arith}
@@ -12,19 +12,19 @@ use Rattle.figuring.specs.Parts.{cfMost, partMost, between, withinLimits
 use Rattle.figuring.specs.Netting.{nearest, shortage, surplus, netOf}
 use Rattle.figuring.specs.FiveDecimals.{CardFigures, OldFigures, SameMg, Figures, finer, oldCfMost, oldCf, oldUnit, oldPartMost}
 use Rattle.figuring.specs.FiveDecimals.{restatedCf, restatedPart, restated, partFrom, sumFrom}
-use Rattle.figuring.proofs.BoolLaws.{and-intro}
 use Rattle.figuring.proofs.SignedLaws.{abs-mul, mul-mul, add-mul}
 use Rattle.figuring.proofs.NearestLaws.{HasHalf, nearest-finer}
 
-pub card-figures : CardFigures
-unfolding withinLimits between
-card-figures = record { cf = (refl, refl); cf-most = (refl, refl); half = refl; bound = refl }
-
-pub old-figures : OldFigures
-unfolding withinLimits between netOf nearest
-old-figures = record { cf = (refl, refl); half-even = refl; half-odd = refl; half-below = refl }
-
 -- ---- limits
+-- the other three figures within their limits
+cf-decides : (cf : ℕ) → withinLimits 465 cf 1000 435 ≡ between 1 cfMost cf
+unfolding withinLimits between
+cf-decides cf = and-true (leb 1 cf && leb cf cfMost)
+
+pub card-figures : CardFigures
+unfolding between
+card-figures = record { cf = cf-decides; half = refl; bound = refl }
+
 -- a test "at most" of ten times a number
 leb-finer : (n most : ℕ) → leb (n * finer) (most * finer) ≡ leb n most
 leb-finer n most = go (leb n most) refl
@@ -33,24 +33,31 @@ leb-finer n most = go (leb n most) refl
     go true e = let h : n ≤ most = leb-true n most e in le-leb (n * finer) (most * finer) (omega arith)
     go false e = let h : most < n = leb-false n most e in lt-leb (n * finer) (most * finer) (omega arith)
 
--- of CF alone; the other three figures are as they were
-cf-old : (cf : ℕ) → between 1 cfMost (restatedCf cf) ≡ between 1 cfMost (oldCf cf)
+-- of CF alone: restated, and read by the limits of now, it is within them exactly when it is 1 to the old most
+cf-restated : (cf : ℕ) → between 1 cfMost (restatedCf cf) ≡ between 1 oldCfMost cf
 unfolding between
-cf-old zero = refl
-cf-old (suc n) =
-    rw (le-leb 1 (restatedCf (suc n)) (omega arith), leb-finer (suc n) oldCfMost) (go (leb (suc n) oldCfMost) refl)
+cf-restated zero = refl
+cf-restated (suc n) =
+    rw (le-leb 1 (restatedCf (suc n)) (omega arith), le-leb 1 (suc n) (omega arith), leb-finer (suc n) oldCfMost)
+
+cf-old : (cf : ℕ) → between 1 cfMost (oldCf cf) ≡ between 1 oldCfMost cf
+unfolding between
+cf-old cf = go (leb cf oldCfMost) refl
   where
-    go : (t : Bool) → leb (suc n) oldCfMost ≡ t
-        → t ≡ (leb 1 (cond t (suc n) (cfMost + 1)) && leb (cond t (suc n) (cfMost + 1)) cfMost)
-    go true e =
-        let h : suc n ≤ oldCfMost = leb-true (suc n) oldCfMost e in
-        sym (and-intro (le-leb 1 (suc n) (omega arith)) (le-leb (suc n) cfMost (omega arith)))
-    go false e = refl
+    go : (t : Bool) → leb cf oldCfMost ≡ t
+        → (leb 1 (cond t cf (cfMost + 1)) && leb (cond t cf (cfMost + 1)) cfMost) ≡ (leb 1 cf && t)
+    go true e = let h : cf ≤ oldCfMost = leb-true cf oldCfMost e in rw (le-leb cf cfMost (omega arith))
+    go false e = sym (and-false (leb 1 cf))
 
 pub limits-old :
     (fcl cf volume life : ℕ) → withinLimits fcl (restatedCf cf) volume life ≡ withinLimits fcl (oldCf cf) volume life
 unfolding withinLimits
-limits-old fcl cf volume life = rw (cf-old cf)
+limits-old fcl cf volume life = rw (cf-restated cf, cf-old cf)
+
+pub old-figures : OldFigures
+unfolding between netOf nearest
+old-figures =
+    record { cf = λ cf. cf-decides (oldCf cf) ∙ cf-old cf; half-even = refl; half-odd = refl; half-below = refl }
 
 -- ---- parts
 pub part-finer :

@@ -1,6 +1,6 @@
 -- The nearest Mg to a sum, in any unit of which half a Mg is a whole number of part units. Above zero it is what `nearest`
--- gives; a sum below zero is the mirror of one above. A unit ten times as fine, with a sum ten
--- times as large, changes nothing.
+-- gives; a sum below zero is the mirror of one above. A unit ten times as fine, with a sum ten times as large, changes
+-- nothing.
 use Prim.Native.Nat.{ℕ, zero, suc, _+_, _*_, _-_, _/_, _%_, _<_, _≤_}
 use mathlib.Core.Bool.{Bool, true, false}
 use mathlib.Core.Path.{_≡_, refl, sym, _∙_, ap}

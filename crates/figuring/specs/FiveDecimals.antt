@@ -2,7 +2,7 @@
 -- ten-thousandths and a part in units of 10^-7 Mg.
 -- "The Mg of every old figure are the same once its CF is multiplied by 10".
 use Prim.Native.Nat.{ℕ, _+_, _*_}
-use mathlib.Core.Bool.{Bool, true, false, cond}
+use mathlib.Core.Bool.{Bool, _&&_, cond}
 use mathlib.Core.List.{List, [], _∷_, map}
 use mathlib.Core.Path.{_≡_}
 use lib.Dec.{leb}
@@ -14,8 +14,8 @@ use Rattle.figuring.specs.declared.netting.Net.the-variants.{Surplus, Ne
 
 -- ---- the card's figures: CF "1 to 1,000,000", "a half is now 50,000,000", and the bound of a part, which the limits give
 pub record CardFigures : Type 0 where
-  pub cf : (withinLimits 465 0 1000 435 ≡ false) × (withinLimits 465 1 1000 435 ≡ true)
-  pub cf-most : (withinLimits 465 1000000 1000 435 ≡ true) × (withinLimits 465 1000001 1000 435 ≡ false)
+  -- of every CF, so with each of its decimals
+  pub cf : (cf : ℕ) → withinLimits 465 cf 1000 435 ≡ (leb 1 cf && leb cf 1000000)
   pub half : halfMg engineUnit ≡ 50000000
   pub bound : partMost ≡ 768 * cfMost * volumeMost * lifeMost
 
@@ -37,11 +37,10 @@ oldUnit = 10000000
 abbrev pub oldPartMost : ℕ
 oldPartMost = 3840000000000000
 
--- as the papers have them: CF 100,000 taken and 100,001 not; and card 3's "5,000,000 units give 0, 15,000,000 give 2,
+-- as the papers have them: of every CF "1-100,000"; and card 3's "5,000,000 units give 0, 15,000,000 give 2,
 -- -5,000,000 give 0"
 pub record OldFigures : Type 0 where
-  pub cf :
-      (withinLimits 465 (oldCf 100000) 1000 435 ≡ true) × (withinLimits 465 (oldCf 100001) 1000 435 ≡ false)
+  pub cf : (cf : ℕ) → withinLimits 465 (oldCf cf) 1000 435 ≡ (leb 1 cf && leb cf 100000)
   pub half-even : netOf oldUnit (pos 5000000) ≡ Neither
   pub half-odd : netOf oldUnit (pos 15000000) ≡ Surplus (record { 0 = 2 })
   pub half-below : netOf oldUnit (neg 5000000) ≡ Neither

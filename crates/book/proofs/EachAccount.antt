@@ -1,6 +1,7 @@
 -- Each account by itself, by computing.
 use mathlib.Core.Path.{refl}
 use Rattle.figuring.specs.Standards.{standardFor, gramsOf, tractor, printedFor}
+use Rattle.figuring.specs.Editions.{alternativeYears, inTable, alternativeFor, standardUnder}
 use Rattle.figuring.specs.Parts.{partOf}
 use Rattle.figuring.specs.Netting.{netOf, nearest, earnedOf, shortfallOf}
 use Rattle.book.specs.Postings.{partFor}
@@ -8,5 +9,12 @@ use Rattle.book.specs.Accounts.{sameKey, only, onlyℤ, feed, feedAll, a
 use Rattle.book.specs.EachAccount.{EachAccount}
 
 pub each-account : EachAccount
-unfolding accountsOf feedAll feed sameKey only onlyℤ partFor standardFor gramsOf tractor printedFor partOf netOf nearest earnedOf shortfallOf
-each-account = record { seller = refl; buyer = refl; shortage = refl; otherSet = refl }
+unfolding accountsOf feedAll feed sameKey only onlyℤ partFor standardUnder alternativeFor alternativeYears inTable standardFor gramsOf tractor printedFor partOf netOf nearest earnedOf shortfallOf
+each-account =
+    record {
+      seller = refl;
+      buyer = refl;
+      shortage = refl;
+      named = (refl, refl, refl, refl);
+      otherSet = refl;
+    }

@@ -1,5 +1,5 @@
 -- What an accepted filing says.
-use mathlib.Core.Bool.{true, false}
+use mathlib.Core.Bool.{true, false, false≢true}
 use mathlib.Core.Path.{_≡_, ap}
 use Prim.Native.Nat.{ℕ, _≤_, _<_}
 use native.Mathlib.Omega.{arith}
@@ -8,6 +8,7 @@ use lib.Dec.{eqb}
 use lib.ListN.{getD}
 use Rattle.figuring.specs.Years.{lastYear}
 use Rattle.figuring.specs.Standards.{standardFor, isAbsent}
+use Rattle.figuring.specs.Editions.{noEdition}
 use Rattle.figuring.specs.Parts.{withinLimits, partOf, familyPart}
 use Rattle.figuring.specs.declared.units.Part.{Part}
 use Rattle.figuring.specs.declared.parts.FamilyPart.{FamilyPart}
@@ -17,12 +18,14 @@ use Rattle.book.specs.Sizes.{makers, sets, families}
 use Rattle.book.specs.Ledger.{marked}
 use Rattle.book.specs.Soundness.{sound}
 use Rattle.book.specs.Refusals.{firstRefusal}
-use Rattle.book.specs.Rules.{fileRows}
+use Rattle.book.specs.Rules.{fileRows, ownRows, posted}
 use Rattle.book.specs.Postings.{filingCell}
+use Rattle.book.specs.Demand3.{isAccepted}
 use Rattle.book.specs.declared.ledger.Book.{Book}
+use Rattle.book.specs.declared.kinds.Call.{Call}
 use Rattle.book.specs.declared.kinds.Filing.{Filing}
 use Rattle.book.specs.declared.answers.Verdict.the-variants.{Accepted}
-use Rattle.book.proofs.TableLaws.{cleared}
+use Rattle.book.proofs.TableLaws.{cleared, by-verdict}
 use Rattle.book.proofs.CloseFacts.{still-open}
 
 pub record Fileable (b : Book) (f : Filing) : Type 0 where
@@ -32,6 +35,7 @@ pub record Fileable (b : Book) (f : Filing) : Type 0 where
   pub year : f .year ≡ b .«open_year»
   pub upto : b .«open_year» ≤ lastYear
   pub standard : isAbsent (standardFor (f .set) (f .«vehicle_use») (f .year)) ≡ false
+  pub edition : noEdition (f .edition) (f .set) (f .year) ≡ false
   pub family : f .family < families
   pub limits : withinLimits (f .fcl) (f .cf) (f .volume) (f .life) ≡ true
   pub unmarked : marked (getD (b .marks) (filingCell f) 0) (f .family) ≡ false
@@ -49,10 +53,17 @@ fileable b f s e =
       year = eqb-true (f .year) (b .«open_year») (not-false (eqb (f .year) (b .«open_year»)) (search));
       upto = still-open b s (search);
       standard = search;
+      edition = search;
       family = leb-false families (f .family) (search);
       limits = not-false (withinLimits (f .fcl) (f .cf) (f .volume) (f .life)) (search);
       unmarked = search;
     }
+
+pub accepted-filing : (b : Book) (f : Filing) → isAccepted (posted b (Call.File f) .answer) ≡ true → Fileable b f
+unfolding ownRows isAccepted
+accepted-filing b f =
+    by-verdict b (Call.File f) (λ p. isAccepted (p .answer) ≡ true → Fileable b f) (λ r a. absurd (false≢true a))
+    (λ s e a. fileable b f s e)
 
 -- what family_part gives a filing that is within its limits
 module _ (s fcl cf volume life : ℕ) (h : withinLimits fcl cf volume life ≡ true) where

@@ -9,9 +9,10 @@ use native.Mathlib.Decide.{ℕ-discrete}
 use lib.ListN.{getD, set as store, length-set}
 use lib.Seq.{getD-set-same, getD-set-other}
 use lib.IntN.{ℤ, pos, natAbs}
-use Rattle.figuring.specs.Standards.{standardFor, gramsOf}
+use Rattle.figuring.specs.Standards.{gramsOf}
+use Rattle.figuring.specs.Editions.{standardUnder}
 use Rattle.figuring.specs.Parts.{partMost}
-use Rattle.figuring.proofs.StandardLaws.{grams-range}
+use Rattle.figuring.proofs.EditionLaws.{named-range}
 use Rattle.figuring.proofs.PartLaws.{part-bound}
 use Rattle.book.specs.Sizes.{cells, families}
 use Rattle.book.specs.Ledger.{marked, withMark, partAt}
@@ -109,8 +110,8 @@ module _ (b : Book) (c f : ℕ) (z : ℤ) (sized : Sized b) (hc : c < cells) (hf
 filed-part : (b : Book) (f : Filing) → Fileable b f → natAbs (partFor f) ≤ partMost
 unfolding partFor
 filed-part b f h =
-    let g = grams-range (f .set) (f .«vehicle_use») (f .year) (h .standard) in
-    part-bound (gramsOf (standardFor (f .set) (f .«vehicle_use») (f .year))) (f .fcl) (f .cf) (f .volume) (f .life)
+    let g = named-range (f .edition) (f .set) (f .«vehicle_use») (f .year) (h .standard) (h .edition) in
+    part-bound (gramsOf (standardUnder (f .edition) (f .set) (f .«vehicle_use») (f .year))) (f .fcl) (f .cf) (f .volume) (f .life)
     (g .0) (omega arith) (h .limits)
 
 file-sound : (b : Book) (f : Filing) → Sized b → Fileable b f → Sound (filingDone b f .book)

@@ -11,6 +11,7 @@ pub mod MoveFacts
 pub mod Balances
 pub mod Lawful
 pub mod FilingLaws
+pub mod NamedStandard
 pub mod ClosingLaws
 pub mod MovingLaws
 pub mod CallLaws

@@ -4,6 +4,7 @@ use mathlib.Core.Path.{_≡_, refl, _∙_, ap}
 use native.Mathlib.Omega.{arith}
 use lib.IntN.{pos}
 use Rattle.figuring.specs.Standards.{standardFor, tractor, printedFor, isAbsent}
+use Rattle.figuring.specs.Editions.{noEdition}
 use Rattle.figuring.specs.Parts.{withinLimits, between}
 use Rattle.figuring.specs.Netting.{earnedOf}
 use Rattle.figuring.proofs.MarkedLaws as Figuring
@@ -84,7 +85,7 @@ close-refused =
 
 -- ---- all of them
 pub marked-figures : MarkedFigures
-unfolding posted table headRows ownRows fileRows done stored freshBook isAccepted refusalIn marked standardFor tractor printedFor isAbsent withinLimits between
+unfolding posted table headRows ownRows fileRows done stored freshBook isAccepted refusalIn marked standardFor tractor printedFor isAbsent noEdition withinLimits between
 marked-figures =
     record {
       figuring = Figuring.marked-figures;

@@ -27,6 +27,32 @@ example =
     ∷ turnedDown (Call.Trade (record { from = 0; to = 1; set = 3; vintage = 2014; mg = 1000 }))
     ∷ []
 
+-- Card 5: heavy families of 2025 that are alike but for their maker, use and edition, each 1 g/hp-hr below the ordinary
+-- standard, so that each gram is 1 Mg; and the close
+abbrev pub heavyWith : ℕ → ℕ → ℕ → ℕ → Call
+heavyWith maker vehicleUse edition fcl =
+    Call.File (record {
+      maker = maker;
+      set = 3;
+      year = 2025;
+      «vehicle_use» = vehicleUse;
+      edition = edition;
+      family = 0;
+      fcl = fcl;
+      cf = 100000;
+      volume = 1000;
+      life = 1;
+    })
+
+abbrev pub editions : List Entry
+editions =
+    taken (heavyWith 0 0 1 505)
+    ∷ taken (heavyWith 1 0 2 505)
+    ∷ taken (heavyWith 2 1 0 435)
+    ∷ taken (heavyWith 3 1 2 435)
+    ∷ taken (Call.Close 2025)
+    ∷ []
+
 -- the Mg at a key in document 01's order: "earned, shortfall, bought, sold, applied, retired and covered"
 abbrev pub mgAt : Accounts → Key → List ℕ
 mgAt a k =
@@ -43,4 +69,10 @@ pub record EachAccount : Type 0 where
   pub seller : mgAt (accountsOf example) (key 0 3 2014) ≡ 12180 ∷ 0 ∷ 0 ∷ 200 ∷ 0 ∷ 5 ∷ 0 ∷ []
   pub buyer : mgAt (accountsOf example) (key 1 3 2014) ≡ 0 ∷ 0 ∷ 200 ∷ 0 ∷ 30 ∷ 0 ∷ 0 ∷ []
   pub shortage : mgAt (accountsOf example) (key 1 3 2016) ≡ 0 ∷ 0 ∷ 0 ∷ 0 ∷ 0 ∷ 0 ∷ 30 ∷ []
+  -- by 506, 510, 436 and 442
+  pub named :
+      (accountsOf editions .earned (key 0 3 2025) ≡ 1)
+      × (accountsOf editions .earned (key 1 3 2025) ≡ 5)
+      × (accountsOf editions .earned (key 2 3 2025) ≡ 1)
+      × (accountsOf editions .earned (key 3 3 2025) ≡ 7)
   pub otherSet : mgAt (accountsOf example) (key 0 2 2014) ≡ 0 ∷ 0 ∷ 0 ∷ 0 ∷ 0 ∷ 0 ∷ 0 ∷ []

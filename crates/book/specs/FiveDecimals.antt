@@ -38,6 +38,7 @@ withCf f cf =
       set = f .set;
       year = f .year;
       «vehicle_use» = f .«vehicle_use»;
+      edition = f .edition;
       family = f .family;
       fcl = f .fcl;
       cf = cf;

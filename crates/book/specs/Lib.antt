@@ -12,6 +12,7 @@ pub mod Companions
 pub mod Orders
 pub mod FilingOrder
 pub mod FiveDecimals
+pub mod Editions
 pub mod Listing
 pub mod Marked
 pub mod EachAccount

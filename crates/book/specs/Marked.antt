@@ -20,6 +20,7 @@ filingWith family fcl =
       set = 3;
       year = 2014;
       «vehicle_use» = 1;
+      edition = 0;
       family = family;
       fcl = fcl;
       cf = 280000;

@@ -6,7 +6,8 @@ use lib.ListN.{getD, set as store, replicate}
 use lib.IntN.{ℤ, pos}
 use Rattle.figuring.specs.Years.{firstYear}
 use Rattle.figuring.specs.Units.{engineUnit}
-use Rattle.figuring.specs.Standards.{standardFor, gramsOf}
+use Rattle.figuring.specs.Standards.{gramsOf}
+use Rattle.figuring.specs.Editions.{standardUnder}
 use Rattle.figuring.specs.Parts.{partOf}
 use Rattle.figuring.specs.Netting.{netOf, earnedOf, shortfallOf}
 use Rattle.figuring.specs.declared.netting.Net.{Net}
@@ -38,10 +39,11 @@ freshBook = emptyIn firstYear
 
 -- ---- File: "sets the mark and the part. Returns the part and how many families of that cell are now filed."
 
--- a filing's part, figured from its own arguments
+-- a filing's part, figured from its own arguments. Card 5: "under the standard they named"
 unfoldable pub partFor : Filing → ℤ
 partFor f =
-    partOf (gramsOf (standardFor (f .set) (f .«vehicle_use») (f .year))) (f .fcl) (f .cf) (f .volume) (f .life)
+    partOf (gramsOf (standardUnder (f .edition) (f .set) (f .«vehicle_use») (f .year))) (f .fcl) (f .cf) (f .volume)
+    (f .life)
 
 abbrev pub filingCell : Filing → ℕ
 filingCell f = cell (f .maker) (f .set)

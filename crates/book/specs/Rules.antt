@@ -8,6 +8,7 @@ use mathlib.Core.Path.{_≡_}
 use lib.Dec.{ltb, leb, eqb}
 use lib.ListN.{getD}
 use Rattle.figuring.specs.Standards.{standardFor, isAbsent}
+use Rattle.figuring.specs.Editions.{noEdition}
 use Rattle.figuring.specs.Parts.{withinLimits}
 use Rattle.book.specs.Sizes.{makers, sets, families, allClosed}
 use Rattle.book.specs.Ledger.{figureAt, marked, hasShortage}
@@ -28,7 +29,7 @@ use Rattle.book.specs.declared.answers.Refusal.{Refusal}
 use Rattle.book.specs.declared.answers.Refusal.the-variants.{UnsoundBook, UnknownMaker, UnknownSet, YearNotOpen}
 use Rattle.book.specs.declared.answers.Refusal.the-variants.{NoStandard, UnknownFamily, OutOfLimits, AlreadyFiled}
 use Rattle.book.specs.declared.answers.Refusal.the-variants.{VintageNotLive, ZeroAmount, SameMaker, HasShortage}
-use Rattle.book.specs.declared.answers.Refusal.the-variants.{NoOpenShortage, AboveLot, AboveShortage}
+use Rattle.book.specs.declared.answers.Refusal.the-variants.{NoOpenShortage, AboveLot, AboveShortage, NoEdition}
 use Rattle.book.specs.declared.answers.Verdict.{Verdict}
 use Rattle.book.specs.declared.answers.Verdict.the-variants.{Accepted, Refuse}
 
@@ -45,6 +46,7 @@ fileRows Y marks f =
     ∷ (not (eqb (f .year) Y) ⇒ YearNotOpen)
     ∷ (eqb Y allClosed ⇒ YearNotOpen)
     ∷ (isAbsent (standardFor (f .set) (f .«vehicle_use») (f .year)) ⇒ NoStandard)
+    ∷ (noEdition (f .edition) (f .set) (f .year) ⇒ NoEdition)
     ∷ (leb families (f .family) ⇒ UnknownFamily)
     ∷ (not (withinLimits (f .fcl) (f .cf) (f .volume) (f .life)) ⇒ OutOfLimits)
     ∷ (marked (getD marks (filingCell f) 0) (f .family) ⇒ AlreadyFiled)
@@ -125,7 +127,7 @@ numbers [] = []
 numbers (x ∷ xs) = numberOf (x .why) ∷ numbers xs
 
 pub record CheckingOrder : Type 0 where
-  pub file : (b : Book) (f : Filing) → numbers (table b (Call.File f)) ≡ 2 ∷ 3 ∷ 4 ∷ 5 ∷ 5 ∷ 6 ∷ 7 ∷ 8 ∷ 9 ∷ []
+  pub file : (b : Book) (f : Filing) → numbers (table b (Call.File f)) ≡ 2 ∷ 3 ∷ 4 ∷ 5 ∷ 5 ∷ 6 ∷ 17 ∷ 7 ∷ 8 ∷ 9 ∷ []
   pub close : (b : Book) (y : ℕ) → numbers (table b (Call.Close y)) ≡ 2 ∷ 5 ∷ 5 ∷ []
   pub trade : (b : Book) (t : Trade) → numbers (table b (Call.Trade t)) ≡ 2 ∷ 3 ∷ 3 ∷ 4 ∷ 10 ∷ 11 ∷ 12 ∷ 13 ∷ 15 ∷ []
   pub apply :

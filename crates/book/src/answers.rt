@@ -23,6 +23,7 @@ pub enum Refusal {
     NoOpenShortage,
     AboveLot,
     AboveShortage,
+    NoEdition,
 }
 
 pub enum Answer {
@@ -68,5 +69,6 @@ pub fn refusal_number(r: Refusal) -> u64
         Refusal::NoOpenShortage => 14,
         Refusal::AboveLot => 15,
         Refusal::AboveShortage => 16,
+        Refusal::NoEdition => 17,
     }
 }

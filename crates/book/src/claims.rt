@@ -10,6 +10,7 @@ ghost use Rattle.book.specs.Demand3.{Demand3};
 ghost use Rattle.book.specs.Companions.{KeepsSound, NeverUnsound, Stays, StrikeOut};
 ghost use Rattle.book.specs.FilingOrder.{FilingOrder, EachAlone, SaysNoLess};
 ghost use Rattle.book.specs.FiveDecimals.{SameSessions, SoundParts};
+ghost use Rattle.book.specs.Editions.{UnderNamed};
 ghost use Rattle.book.specs.Marked.{MarkedFigures};
 ghost use Rattle.book.specs.EachAccount.{EachAccount};
 ghost use Rattle.book.specs.declared.ledger.Book.{Book};
@@ -104,6 +105,13 @@ pub fn says_no_less() -> bool
 // and shortages.
 pub fn same_sessions() -> bool
     ensures { λ r. ⌜ (r ≡ true) × SoundParts × SameSessions ⌝ }
+{
+    true
+}
+
+// Card 5: an accepted filing is figured under the standard that it named.
+pub fn under_named() -> bool
+    ensures { λ r. ⌜ (r ≡ true) × ((b : Book) (f : Filing) → UnderNamed b f) ⌝ }
 {
     true
 }

@@ -1,7 +1,8 @@
 // File: sets a family's mark and part in the open year.
 ghost use mathlib.Core.Path.{_≡_};
 ghost use Rattle.figuring.specs.Parts.{familyPart};
-ghost use Rattle.figuring.specs.Standards.{standardFor, gramsOf};
+ghost use Rattle.figuring.specs.Standards.{gramsOf};
+ghost use Rattle.figuring.specs.Editions.{standardUnder};
 ghost use Rattle.book.specs.Refusals.{firstRefusal};
 ghost use Rattle.book.specs.Rules.{posted, fileRows};
 ghost use Rattle.book.specs.declared.kinds.Call.{Call};
@@ -19,6 +20,8 @@ use crate::ledger::SETS;
 use crate::ledger::is_marked;
 use crate::ledger::with_bit;
 use crate::soundness::arrays_sound;
+use figuring::editions::no_edition;
+use figuring::editions::standard_under;
 use figuring::parts::FamilyPart;
 use figuring::parts::family_part;
 use figuring::parts::within_limits;
@@ -64,12 +67,12 @@ pub fn file(book: Book, f: Filing) -> Posted
     }
 }
 
-// A filing's part, from its standard; out of limits where document 01 says so.
+// A filing's part, from the standard that it names; out of limits where document 01 says so.
 fn part_of(f: Filing) -> FamilyPart
-    ensures { λ r. ⌜ r ≡ familyPart (gramsOf (standardFor (f .set) (f .«vehicle_use») (f .year)))
+    ensures { λ r. ⌜ r ≡ familyPart (gramsOf (standardUnder (f .edition) (f .set) (f .«vehicle_use») (f .year)))
         (f .fcl) (f .cf) (f .volume) (f .life) ⌝ }
 {
-    let standard = grams(standard_for(f.set, f.vehicle_use, f.year));
+    let standard = grams(standard_under(f.edition, f.set, f.vehicle_use, f.year));
     family_part(standard, f.fcl, f.cf, f.volume, f.life)
 }
 
@@ -90,6 +93,9 @@ fn file_verdict(open_year: u64, marks: &[u64; 32], f: Filing) -> Verdict
     }
     if is_absent(standard_for(f.set, f.vehicle_use, f.year)) {
         return Verdict::Refuse(Refusal::NoStandard);
+    }
+    if no_edition(f.edition, f.set, f.year) {
+        return Verdict::Refuse(Refusal::NoEdition);
     }
     if f.family >= FAMILIES {
         return Verdict::Refuse(Refusal::UnknownFamily);

@@ -4,6 +4,7 @@ pub struct Filing {
     pub set: u64,
     pub year: u64,
     pub vehicle_use: u64,
+    pub edition: u64,
     pub family: u64,
     pub fcl: u64,
     pub cf: u64,

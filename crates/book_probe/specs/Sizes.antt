@@ -6,9 +6,9 @@ use Rattle.book.specs.Sizes.{cells, allParts, places}
 abbrev pub bookBytes : ℕ
 bookBytes = 8 * (1 + cells + allParts + 2 * places)
 
--- a book, a call's kind and its nine arguments
+-- a book, a call's kind and its ten arguments
 abbrev pub recordBytes : ℕ
-recordBytes = bookBytes + 8 * 10
+recordBytes = bookBytes + 8 * 11
 
 -- soundness, the refusal and two values, and the book
 abbrev pub answerBytes : ℕ

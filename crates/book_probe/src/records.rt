@@ -29,12 +29,12 @@ const PARTS: usize = MARKS + 8 * 32;
 const LOTS: usize = PARTS + 8 * 2048;
 
 const SHORTAGES: usize = LOTS + 8 * 768;
-// A call's kind, after the book; then its nine arguments.
+// A call's kind, after the book; then its ten arguments.
 const KIND: usize = SHORTAGES + 8 * 768;
 
 const ARGUMENTS: usize = KIND + 8;
 
-pub(crate) const RECORD: usize = ARGUMENTS + 8 * 9;
+pub(crate) const RECORD: usize = ARGUMENTS + 8 * 10;
 // Where the book begins in an answer: after its soundness, its refusal and two values.
 const AFTER: usize = 8 * 4;
 
@@ -121,7 +121,7 @@ fn put_book(out: &mut [u8], book: Book)
 
 // The argument of a place in document 01's order, from 0 on.
 fn argument(input: &[u8], place: usize) -> u64
-    requires { ⌜ (recordBytes ≡ length (now input)) × (place ≤ 8) ⌝ }
+    requires { ⌜ (recordBytes ≡ length (now input)) × (place ≤ 9) ⌝ }
 {
     word(input, ARGUMENTS + 8 * place)
 }
@@ -165,11 +165,12 @@ fn filing_of(input: &[u8]) -> Filing
         set: argument(input, 1),
         year: argument(input, 2),
         vehicle_use: argument(input, 3),
-        family: argument(input, 4),
-        fcl: argument(input, 5),
-        cf: argument(input, 6),
-        volume: argument(input, 7),
-        life: argument(input, 8),
+        edition: argument(input, 4),
+        family: argument(input, 5),
+        fcl: argument(input, 6),
+        cf: argument(input, 7),
+        volume: argument(input, 8),
+        life: argument(input, 9),
     }
 }
 

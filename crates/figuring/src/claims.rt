@@ -5,6 +5,7 @@ ghost use mathlib.Core.Path.{_≡_};
 ghost use Rattle.figuring.specs.Marked.{FiguringMarked};
 ghost use Rattle.figuring.specs.Units.{engineUnit};
 ghost use Rattle.figuring.specs.Netting.{RoundsToNearest};
+ghost use Rattle.figuring.specs.Editions.{CardEditions};
 ghost use Rattle.figuring.specs.FiveDecimals.{CardFigures, OldFigures, SameMg};
 
 // What a sum of parts earns, less its shortfall, is its nearest Mg; it has only one, and never both sides at once.
@@ -17,6 +18,13 @@ pub fn rounds_to_nearest() -> bool
 // Card 4: its figures, those before it, and that the Mg of every old figure are the same once its CF is multiplied by 10.
 pub fn same_mg() -> bool
     ensures { λ r. ⌜ (r ≡ true) × CardFigures × OldFigures × SameMg ⌝ }
+{
+    true
+}
+
+// Card 5: the standard under each edition, and that 17 is exactly where an edition has none.
+pub fn card_editions() -> bool
+    ensures { λ r. ⌜ (r ≡ true) × CardEditions ⌝ }
 {
     true
 }

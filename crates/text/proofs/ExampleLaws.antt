@@ -6,7 +6,7 @@ use Rattle.text.specs.Pattern.{fit, figures, filled}
 use Rattle.text.specs.Line.{lineAt, lineOf}
 use Rattle.text.specs.Answers.{textOf}
 use Rattle.text.specs.Lines.{linesFrom}
-use Rattle.text.specs.Examples.{Run, Edges}
+use Rattle.text.specs.Examples.{Run, Fields, Edges}
 
 pub run : Run
 unfolding lineOf lineAt figures fit number leading value worth textOf refusalIn valuesIn filled numeralOf
@@ -26,6 +26,10 @@ run =
       short = refl;
     }
 
+pub fields : Fields
+unfolding lineOf lineAt figures fit number leading value worth
+fields = record { file = refl; trade = refl; apply = refl; retire = refl }
+
 pub edges : Edges
 unfolding lineOf lineAt figures fit number leading value worth linesFrom
 edges =
@@ -40,6 +44,7 @@ edges =
       space-before = refl;
       space-after = refl;
       carriage-return = refl;
+      no-edition = refl;
       other-order = refl;
       rest-of-160 = refl;
       rest-of-161 = refl;

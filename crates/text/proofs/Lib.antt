@@ -7,6 +7,7 @@ pub mod CanonLaws
 pub mod RenderLaws
 pub mod FirstFormLaws
 pub mod FormLaws
+pub mod TypedLaws
 pub mod AnswerLaws
 pub mod DeskLaws
 pub mod ServeLaws

@@ -1,5 +1,5 @@
 -- A line of each form and an answer of each kind, from document 01's run (credit_book's stored test has the run whole),
--- and what lies at the edges of a form.
+-- a line of each form with figures that differ, and what lies at the edges of a form.
 use Prim.Native.Nat.{ℕ}
 use mathlib.Core.Path.{_≡_}
 use mathlib.Core.List.{List, [], _∷_, _++_}
@@ -28,12 +28,13 @@ NoForm s = lineOf s ≡ Line.NoForm
 -- from the paper's input and output
 pub record Run : Type 0 where
   pub file :
-      ascii "(file (maker 0) (set 3) (year 2014) (use 1) (family 0) (fcl 465) (cf 280000) (volume 1000) (life 435))"
+      ascii "(file (maker 0) (set 3) (year 2014) (use 1) (edition 0) (family 0) (fcl 465) (cf 280000) (volume 1000) (life 435))"
       reads Call.File (record {
         maker = 0;
         set = 3;
         year = 2014;
         «vehicle_use» = 1;
+        edition = 0;
         family = 0;
         fcl = 465;
         cf = 280000;
@@ -58,6 +59,32 @@ pub record Run : Type 0 where
   pub lot : lotText 0 3 2014 (LotEntry.Live (record { 0 = 11980 })) ≡ ascii "(lot 0 3 2014 live 11980)\n"
   pub short : shortageText 1 3 2014 (ShortageEntry.Open (record { 0 = 61 })) ≡ ascii "(short 1 3 2014 open 61)\n"
 
+-- Each figure goes to the field that stands before it: no two of a line are the same here, as some of the run's are.
+pub record Fields : Type 0 where
+  pub file :
+      ascii "(file (maker 1) (set 2) (year 2025) (use 0) (edition 3) (family 4) (fcl 5) (cf 6) (volume 7) (life 8))"
+      reads Call.File (record {
+        maker = 1;
+        set = 2;
+        year = 2025;
+        «vehicle_use» = 0;
+        edition = 3;
+        family = 4;
+        fcl = 5;
+        cf = 6;
+        volume = 7;
+        life = 8;
+      })
+  pub trade :
+      ascii "(trade (from 1) (to 2) (set 3) (vintage 4) (mg 5))"
+      reads Call.Trade (record { from = 1; to = 2; set = 3; vintage = 4; mg = 5 })
+  pub apply :
+      ascii "(apply (maker 1) (set 2) (vintage 3) (year 4) (mg 5))"
+      reads Call.Apply (record { maker = 1; set = 2; vintage = 3; year = 4; mg = 5 })
+  pub retire :
+      ascii "(retire (maker 1) (set 2) (vintage 3) (mg 4))"
+      reads Call.Retire (record { maker = 1; set = 2; vintage = 3; mg = 4 })
+
 pub record Edges : Type 0 where
   pub zero : ascii "(close (year 0))" reads Call.Close 0
   pub twelve-digits : ascii "(close (year 999999999999))" reads Call.Close 999999999999
@@ -69,6 +96,9 @@ pub record Edges : Type 0 where
   pub space-before : NoForm (ascii " (close (year 2014))")
   pub space-after : NoForm (ascii "(close (year 2014)) ")
   pub carriage-return : NoForm (ascii "(close (year 2014))\r")
+  -- the form before card 5
+  pub no-edition :
+      NoForm (ascii "(file (maker 0) (set 3) (year 2014) (use 1) (family 0) (fcl 465) (cf 280000) (volume 1000) (life 435))")
   pub other-order : NoForm (ascii "(apply (maker 1) (set 3) (year 2014) (vintage 2014) (mg 261))")
   -- a form at a place of a line of 160 bytes, and of a line of 161
   pub rest-of-160 : lineAt (replicate 141 32 ++ ascii "(close (year 2014))") 141 ≡ Line.Form (Call.Close 2014)

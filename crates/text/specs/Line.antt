@@ -28,18 +28,19 @@ figure n i = getD n i 0
 abbrev pub file : Form
 file =
     record {
-      pattern = ascii "(file (maker #) (set #) (year #) (use #) (family #) (fcl #) (cf #) (volume #) (life #))";
+      pattern = ascii "(file (maker #) (set #) (year #) (use #) (edition #) (family #) (fcl #) (cf #) (volume #) (life #))";
       call =
           λ n. Call.File (record {
             maker = figure n 0;
             set = figure n 1;
             year = figure n 2;
             «vehicle_use» = figure n 3;
-            family = figure n 4;
-            fcl = figure n 5;
-            cf = figure n 6;
-            volume = figure n 7;
-            life = figure n 8;
+            edition = figure n 4;
+            family = figure n 5;
+            fcl = figure n 6;
+            cf = figure n 7;
+            volume = figure n 8;
+            life = figure n 9;
           });
     }
 

@@ -1,9 +1,14 @@
 -- The line that a call is written as, and what reading has to do with it.
 use Prim.Native.Nat.{ℕ, _^_, _<_, _≤_}
+use mathlib.Core.Bool.{true}
 use mathlib.Core.Path.{_≡_}
 use mathlib.Core.List.{List, [], _∷_}
 use lib.ListN.{length}
+use Rattle.book.specs.Rules.{posted}
+use Rattle.book.specs.Demand3.{isAccepted}
+use Rattle.book.specs.declared.ledger.Book.{Book}
 use Rattle.book.specs.declared.kinds.Call.{Call}
+use Rattle.book.specs.declared.kinds.Filing.{Filing}
 use Rattle.text.specs.declared.lines.Line.{Line}
 use Rattle.text.specs.Pattern.{filled}
 use Rattle.text.specs.Line.{Form, file, close, trade, apply, retire, lineOf, longestLine, mostDigits}
@@ -17,7 +22,17 @@ formOf (Call.Retire x) = retire
 
 abbrev pub figuresIn : Call → List ℕ
 figuresIn (Call.File x) =
-    x .maker ∷ x .set ∷ x .year ∷ x .«vehicle_use» ∷ x .family ∷ x .fcl ∷ x .cf ∷ x .volume ∷ x .life ∷ []
+    x .maker
+    ∷ x .set
+    ∷ x .year
+    ∷ x .«vehicle_use»
+    ∷ x .edition
+    ∷ x .family
+    ∷ x .fcl
+    ∷ x .cf
+    ∷ x .volume
+    ∷ x .life
+    ∷ []
 figuresIn (Call.Close x) = x ∷ []
 figuresIn (Call.Trade x) = x .from ∷ x .to ∷ x .set ∷ x .vintage ∷ x .mg ∷ []
 figuresIn (Call.Apply x) = x .maker ∷ x .set ∷ x .vintage ∷ x .year ∷ x .mg ∷ []
@@ -37,6 +52,10 @@ pub record IsText (s : List ℕ) (c : Call) : Type 0 where
   pub text : s ≡ rendered c
   pub short : length s ≤ longestLine
   pub small : Small mostDigits (figuresIn c)
+
+-- A filing that some book accepts, so one with every figure within its limits, can be typed: its text is short enough.
+abbrev pub CanBeTyped : Book → Filing → Type 0
+CanBeTyped b f = isAccepted (posted b (Call.File f) .answer) ≡ true → IsText (rendered (Call.File f)) (Call.File f)
 
 -- a line is no call's text
 abbrev pub NoText : List ℕ → Type 0

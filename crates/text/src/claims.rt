@@ -4,15 +4,24 @@ ghost use mathlib.Core.Bool.{true};
 ghost use mathlib.Core.Path.{_≡_};
 ghost use Rattle.text.specs.Answers.{ByText};
 ghost use Rattle.text.specs.Desk.{ByWhatIsHeld};
-ghost use Rattle.text.specs.Examples.{Edges, Run};
+ghost use Rattle.text.specs.Examples.{Edges, Fields, Run};
 ghost use Rattle.text.specs.Lines.{Lines};
 ghost use Rattle.text.specs.Program.{AnyChunks};
-ghost use Rattle.text.specs.Rendered.{Reads};
+ghost use Rattle.text.specs.Rendered.{CanBeTyped, Reads};
+ghost use Rattle.book.specs.declared.ledger.Book.{Book};
+ghost use Rattle.book.specs.declared.kinds.Filing.{Filing};
 
 // A line is read as a call exactly where it is that call's text, of at most 160 bytes and with figures of at most 12
 // digits; any other line is no form.
 pub fn calls_by_their_text() -> bool
     ensures { λ r. ⌜ (r ≡ true) × Reads ⌝ }
+{
+    true
+}
+
+// A filing that some book accepts has a text of at most 160 bytes, which is read as it.
+pub fn filings_can_be_typed() -> bool
+    ensures { λ r. ⌜ (r ≡ true) × ((b : Book) (f : Filing) → CanBeTyped b f) ⌝ }
 {
     true
 }
@@ -45,9 +54,10 @@ pub fn desks_by_what_they_hold() -> bool
     true
 }
 
-// Of document 01's run a line of each form, an answer of each kind and the lines of its listing.
+// Of document 01's run a line of each form, an answer of each kind and the lines of its listing; and each figure in the
+// field that is named before it.
 pub fn run_of_the_paper() -> bool
-    ensures { λ r. ⌜ (r ≡ true) × Run ⌝ }
+    ensures { λ r. ⌜ (r ≡ true) × Run × Fields ⌝ }
 {
     true
 }

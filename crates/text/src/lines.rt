@@ -41,7 +41,7 @@ fn form_of(line: &[u8]) -> Line
     ensures { λ r. ⌜ r ≡ firstForm forms (now (line .entry)) ⌝ }
 {
     let read = fitted(
-        b"(file (maker #) (set #) (year #) (use #) (family #) (fcl #) (cf #) (volume #) (life #))",
+        b"(file (maker #) (set #) (year #) (use #) (edition #) (family #) (fcl #) (cf #) (volume #) (life #))",
         line,
         MOST_DIGITS,
     );
@@ -60,11 +60,12 @@ fn file_of(n: [u64; MOST_FIGURES]) -> Call
         set: n[1],
         year: n[2],
         vehicle_use: n[3],
-        family: n[4],
-        fcl: n[5],
-        cf: n[6],
-        volume: n[7],
-        life: n[8],
+        edition: n[4],
+        family: n[5],
+        fcl: n[6],
+        cf: n[7],
+        volume: n[8],
+        life: n[9],
     })
 }
 

@@ -2,7 +2,7 @@
 //! each answer, only whether it was a refusal. Nothing is read from a book.
 
 use crate::book::{cell, CELLS, MAKERS, SETS};
-use crate::figuring::{part, rounded, standard, year_index, YEARS};
+use crate::figuring::{named_standard, part, rounded, year_index, YEARS};
 use crate::postings::{Call, Filing};
 
 /// One maker, set and year. The paper's numbers have no bound; 128 bits hold
@@ -90,8 +90,9 @@ impl Accounts {
         Ok(&mut self.by_cell[cell][year])
     }
 
+    /// A family counts under the standard that its filing named.
     fn file(&mut self, filing: &Filing) -> Result<(), OutOfPlace> {
-        let part = standard(filing.set, filing.usage, filing.year)
+        let part = named_standard(filing.edition, filing.set, filing.usage, filing.year)
             .and_then(|standard| part(standard, &filing.figures))
             .ok_or(OutOfPlace)?;
         self.account_mut(filing.maker, filing.set, filing.year)?.sum += i128::from(part.0);

@@ -61,8 +61,8 @@ impl Figures {
     }
 }
 
-/// The standard in g/hp-hr, or none. "On" is read without an end, so years
-/// above 2037 have the last row's standard; no posting ever asks for one.
+/// The ordinary standard in g/hp-hr, or none. "On" is read without an end, so
+/// years above 2037 have the last row's standard; no posting ever asks for one.
 pub fn standard(set: u64, usage: u64, year: u64) -> Option<u16> {
     match (set, usage) {
         (0, 0) => (year >= 2016).then_some(627),
@@ -82,6 +82,29 @@ fn by_period(year: u64, [a, b, c, d, e]: [u16; 5]) -> Option<u16> {
         2021..=2023 => Some(c),
         2024..=2026 => Some(d),
         2027.. => Some(e),
+        _ => None,
+    }
+}
+
+/// The standard that a filing names by its edition: 0 the ordinary one, 1 and
+/// 2 the alternative one of 1036.150(p)(2), by the earlier table and the later.
+pub fn named_standard(edition: u64, set: u64, usage: u64, year: u64) -> Option<u16> {
+    match edition {
+        0 => standard(set, usage, year),
+        1 => alternative(set, usage, year, [538, 506, 467, 442]),
+        2 => alternative(set, usage, year, [542, 510, 467, 442]),
+        _ => None,
+    }
+}
+
+/// Medium vocational, heavy vocational, medium tractor, heavy tractor.
+fn alternative(set: u64, usage: u64, year: u64, [a, b, c, d]: [u16; 4]) -> Option<u16> {
+    match (set, usage) {
+        _ if !(2024..=2026).contains(&year) => None,
+        (2, 0) => Some(a),
+        (3, 0) => Some(b),
+        (2, 1) => Some(c),
+        (3, 1) => Some(d),
         _ => None,
     }
 }

@@ -2,7 +2,8 @@
 
 use crate::book::{cell, Book, CELLS, FAMILIES, MAKERS, SETS};
 use crate::figuring::{
-    is_live, is_open, part, rounded, standard, year_index, Figures, Mg, Part, ALL_CLOSED,
+    is_live, is_open, named_standard, part, rounded, standard, year_index, Figures, Mg, Part,
+    ALL_CLOSED,
 };
 
 /// A call with its arguments other than the book.
@@ -22,6 +23,8 @@ pub struct Filing {
     pub year: u64,
     /// The paper's "use": 0 vocational, 1 tractor.
     pub usage: u64,
+    /// 0 the ordinary standard, 1 and 2 the alternative one.
+    pub edition: u64,
     pub family: u64,
     pub figures: Figures,
 }
@@ -63,7 +66,8 @@ pub enum Results {
     Left(Mg),
 }
 
-/// The refusal list; each value is the paper's number.
+/// The refusal list; each value is the paper's number. `NoEdition` is checked
+/// between `NoStandard` and `Family`.
 #[derive(Clone, Copy, Debug, PartialEq, Eq)]
 pub enum Refusal {
     NoForm = 1,
@@ -82,6 +86,7 @@ pub enum Refusal {
     NoOpenShortage = 14,
     AboveTheLot = 15,
     AboveTheShortage = 16,
+    NoEdition = 17,
 }
 
 impl Refusal {
@@ -111,7 +116,7 @@ fn file(book: &mut Book, filing: &Filing) -> Answer {
     let maker = known_maker(filing.maker)?;
     let set = known_set(filing.set)?;
     require_open_year(book, filing.year)?;
-    let standard = standard(filing.set, filing.usage, filing.year).ok_or(Refusal::NoStandard)?;
+    let standard = standard_of(filing)?;
     let family = below(filing.family, FAMILIES).ok_or(Refusal::Family)?;
     let part = part(standard, &filing.figures).ok_or(Refusal::Limits)?;
     let cell = cell(maker, set);
@@ -124,6 +129,21 @@ fn file(book: &mut Book, filing: &Filing) -> Answer {
         part,
         families: book.filed(cell),
     })
+}
+
+/// The standard that a filing names. Whatever its edition, refusal 6 goes by
+/// the ordinary one; where there is that, what the named one lacks is an
+/// edition that there is, or its sets or years.
+fn standard_of(filing: &Filing) -> Result<u16, Refusal> {
+    let &Filing {
+        set,
+        year,
+        usage,
+        edition,
+        ..
+    } = filing;
+    require(standard(set, usage, year).is_some(), Refusal::NoStandard)?;
+    named_standard(edition, set, usage, year).ok_or(Refusal::NoEdition)
 }
 
 fn close(book: &mut Book, year: u64) -> Answer {

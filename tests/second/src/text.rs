@@ -52,6 +52,7 @@ impl Reader<'_> {
             set: self.field(b"set")?,
             year: self.field(b"year")?,
             usage: self.field(b"use")?,
+            edition: self.field(b"edition")?,
             family: self.field(b"family")?,
             figures: Figures {
                 fcl: self.field(b"fcl")?,
@@ -186,6 +187,7 @@ impl Call {
                     ("set", c.set),
                     ("year", c.year),
                     ("use", c.usage),
+                    ("edition", c.edition),
                     ("family", c.family),
                     ("fcl", c.figures.fcl),
                     ("cf", c.figures.cf),

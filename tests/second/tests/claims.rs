@@ -8,7 +8,7 @@ use second::audit::Audit;
 use second::book::Book;
 use second::figuring::{Figures, Mg, Part};
 use second::generate::{session, Kind};
-use second::postings::{post, Answer, Call, Filing, Refusal};
+use second::postings::{post, Answer, Call, Refusal};
 use second::text::{parse, Lines};
 use std::convert::Infallible;
 
@@ -17,7 +17,7 @@ fn call(line: &str) -> Call {
 }
 
 const FILE: &str =
-    "(file (maker 0) (set 3) (year 2014) (use 0) (family 0) (fcl 466) (cf 1000000) (volume 100) (life 1))";
+    "(file (maker 0) (set 3) (year 2014) (use 0) (edition 0) (family 0) (fcl 466) (cf 1000000) (volume 100) (life 1))";
 const CLOSE: &str = "(close (year 2014))";
 
 /// An audit and a book in which maker 0 holds 101 Mg of set 3.
@@ -80,7 +80,7 @@ fn an_unsound_book_after_a_posting_is_noticed() {
     let (mut audit, book) = begun();
     let mut after = book.clone();
     after.parts[31][0] = Part(1);
-    let file = call("(file (maker 7) (set 3) (year 2015) (use 0) (family 0) (fcl 566) (cf 1) (volume 1) (life 1))");
+    let file = call("(file (maker 7) (set 3) (year 2015) (use 0) (edition 0) (family 0) (fcl 566) (cf 1) (volume 1) (life 1))");
     assert!(audit.judge(&file, true, &book, &after).is_err());
 }
 
@@ -98,7 +98,9 @@ fn an_accepted_call_outside_the_accounts_is_noticed() {
         "(close (year 2038))",
         "(trade (from 0) (to 8) (set 3) (vintage 2014) (mg 1))",
         "(retire (maker 0) (set 3) (vintage 2038) (mg 1))",
-        "(file (maker 0) (set 3) (year 2015) (use 0) (family 0) (fcl 0) (cf 1) (volume 1) (life 1))",
+        "(file (maker 0) (set 3) (year 2015) (use 0) (edition 0) (family 0) (fcl 0) (cf 1) (volume 1) (life 1))",
+        "(file (maker 0) (set 3) (year 2015) (use 0) (edition 1) (family 0) (fcl 1) (cf 1) (volume 1) (life 1))",
+        "(file (maker 0) (set 3) (year 2015) (use 0) (edition 3) (family 0) (fcl 1) (cf 1) (volume 1) (life 1))",
     ] {
         assert!(audit.judge(&call(line), true, &book, &book).is_err(), "{line}");
     }
@@ -146,26 +148,10 @@ fn sessions_close_on_halves_and_beside_them() {
     }
 }
 
-/// The filings of a kind's first sessions, each with its answer.
-fn filings(kind: Kind) -> Vec<(Filing, Answer)> {
-    let mut seen = Vec::new();
-    for seed in 0..4 {
-        let mut book = Book::fresh();
-        let input = session(kind, seed, kind.usual_lines());
-        for call in input.split(|&byte| byte == b'\n').filter_map(parse) {
-            let answer = post(&mut book, &call);
-            if let Call::File(filing) = call {
-                seen.push((filing, answer));
-            }
-        }
-    }
-    seen
-}
-
 #[test]
 fn most_families_need_the_fifth_decimal_of_cf() {
     for kind in [Kind::Years, Kind::Hostile, Kind::Mixed, Kind::Single] {
-        let filings = filings(kind);
+        let filings = filings(kind, 0..4);
         let accepted = filings.iter().filter(|(_, answer)| answer.is_ok());
         let cfs: Vec<u64> = accepted.map(|(filing, _)| filing.figures.cf).collect();
         let needed = cfs.iter().filter(|&cf| cf % 10 != 0).count();
@@ -176,7 +162,7 @@ fn most_families_need_the_fifth_decimal_of_cf() {
 
 #[test]
 fn hostile_sessions_reach_the_ends_of_cf() {
-    let filings = filings(Kind::Hostile);
+    let filings = filings(Kind::Hostile, 0..4);
     let count = |wanted: u64, answered: fn(&Answer) -> bool| {
         let like = filings.iter().filter(|(filing, answer)| {
             let others = Figures {
@@ -204,7 +190,7 @@ fn hostile_sessions_meet_every_refusal_a_terminal_can_give() {
         let input = session(Kind::Hostile, seed, Kind::Hostile.usual_lines());
         answers += &output_in_pieces(&input, 4_096);
     }
-    for number in (1..=16).filter(|&number| number != UNSOUND) {
+    for number in (1..=17).filter(|&number| number != UNSOUND) {
         assert!(answers.contains(&format!("(no {number})\n")), "{number}");
     }
     for state in ["live", "expired", "open", "overdue"] {

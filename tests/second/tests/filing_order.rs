@@ -6,7 +6,7 @@ mod common;
 
 use common::*;
 use second::book::{Book, CELLS};
-use second::figuring::{standard, Figures, Part};
+use second::figuring::{named_standard, Figures, Part};
 use second::generate::rng::Rng;
 use second::generate::{session, Kind};
 use second::listing::list;
@@ -84,13 +84,23 @@ fn figure(rng: &mut Rng, most: u64, odd: bool) -> u64 {
     }
 }
 
+/// One of the three where there are that many; of an odd filing also one more.
+fn any_edition(rng: &mut Rng, year: u64, odd: bool) -> u64 {
+    match year {
+        _ if odd && rng.once_in(4) => rng.below(4),
+        2024..=2026 => rng.below(3),
+        _ => 0,
+    }
+}
+
 /// Any filing, one in six with something outside its limits. A `narrow` one
 /// names maker 0 in set 2 or 3, so that many of them fill these cells.
 fn any_filing(rng: &mut Rng, year: u64, narrow: bool) -> Filing {
     let odd = rng.once_in(6);
     let usage = rng.below(if odd { 3 } else { 2 });
+    let edition = any_edition(rng, year, odd);
     let level = match rng.below(8) {
-        0 => standard(2, usage, year).map_or(1, u64::from),
+        0 => named_standard(edition, 2, usage, year).map_or(1, u64::from),
         _ => figure(rng, 1_200, odd),
     };
     Filing {
@@ -111,6 +121,7 @@ fn any_filing(rng: &mut Rng, year: u64, narrow: bool) -> Filing {
             year
         },
         usage,
+        edition,
         family: rng.below(if odd { 70 } else { 64 }),
         figures: Figures {
             fcl: level,
@@ -130,7 +141,7 @@ fn listed(book: &Book) -> String {
 #[test]
 fn two_orders_of_any_filings_give_one_book() {
     let mut rng = Rng::new(1);
-    let (mut reached, mut most) = (BTreeSet::new(), 0);
+    let (mut reached, mut editions, mut most) = (BTreeSet::new(), BTreeSet::new(), 0);
     for _ in 0..150 {
         let book = begun(&mut rng);
         let (year, narrow) = match rng.below(12) {
@@ -146,6 +157,8 @@ fn two_orders_of_any_filings_give_one_book() {
             Err(refusal) => Err(refusal.number()),
         });
         reached.extend(kinds);
+        let taken = filings.iter().filter(|filing| gets[&name(filing)].is_ok());
+        editions.extend(taken.map(|filing| filing.edition));
         most = most.max((0..CELLS).map(|cell| after.filed(cell)).max().unwrap_or(0));
         for filing in &filings {
             let (_, alone) = put(&book, std::slice::from_ref(filing));
@@ -161,11 +174,13 @@ fn two_orders_of_any_filings_give_one_book() {
             assert_eq!(listed(&other), listed(&after));
         }
     }
-    // Parts below 0, of 0 and above; every refusal of a filing; full cells.
-    let wanted = [-1, 0, 1].map(Ok).into_iter().chain((2..=9).map(Err));
-    for wanted in wanted {
+    // Parts below 0, of 0 and above; every refusal of a filing; every edition;
+    // full cells.
+    let refusals = (2..=9).chain([17]).map(Err);
+    for wanted in [-1, 0, 1].map(Ok).into_iter().chain(refusals) {
         assert!(reached.contains(&wanted), "{wanted:?} was never given");
     }
+    assert_eq!(editions, BTreeSet::from([0, 1, 2]));
     assert!(most >= 50, "no cell had more than {most} families");
 }
 
@@ -239,6 +254,7 @@ fn plain(family: u64, fcl: u64) -> Filing {
         set: 3,
         year: 2014,
         usage: 0,
+        edition: 0,
         family,
         figures: Figures {
             fcl,

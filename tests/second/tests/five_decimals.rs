@@ -128,6 +128,7 @@ fn closed_mg(families: &[Figures]) -> i128 {
             set: 3,
             year: 2014,
             usage: 0,
+            edition: 0,
             family,
             figures,
         };

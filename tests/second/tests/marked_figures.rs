@@ -1,5 +1,5 @@
-//! The paper's marked figures P1 to P12 and its run, as cards 3 and 4 restate
-//! them.
+//! The paper's marked figures P1 to P12 and its run, as cards 3, 4 and 5
+//! restate them.
 
 mod common;
 
@@ -11,8 +11,8 @@ use second::figuring::{
 use second::text::parse;
 
 const RUN: &str = "\
-(file (maker 0) (set 3) (year 2014) (use 1) (family 0) (fcl 465) (cf 280000) (volume 1000) (life 435))
-(file (maker 1) (set 3) (year 2014) (use 0) (family 5) (fcl 569) (cf 300000) (volume 100) (life 435))
+(file (maker 0) (set 3) (year 2014) (use 1) (edition 0) (family 0) (fcl 465) (cf 280000) (volume 1000) (life 435))
+(file (maker 1) (set 3) (year 2014) (use 0) (edition 0) (family 5) (fcl 569) (cf 300000) (volume 100) (life 435))
 (close (year 2014))
 (trade (from 0) (to 1) (set 3) (vintage 2014) (mg 200))
 (apply (maker 1) (set 3) (vintage 2014) (year 2014) (mg 261))

@@ -207,7 +207,7 @@ fn nothing_lies_in_the_open_year_or_later() {
 #[test]
 fn an_unsound_book_refuses_every_call_first() {
     let calls = [
-        "(file (maker 8) (set 4) (year 1) (use 2) (family 64) (fcl 0) (cf 0) (volume 0) (life 0))",
+        "(file (maker 8) (set 4) (year 1) (use 2) (edition 3) (family 64) (fcl 0) (cf 0) (volume 0) (life 0))",
         "(close (year 1))",
         "(trade (from 8) (to 8) (set 4) (vintage 1) (mg 0))",
         "(apply (maker 8) (set 4) (vintage 1) (year 1) (mg 0))",
@@ -226,19 +226,66 @@ fn the_order_of_a_filings_refusals() {
     let mut book = book(2015, &[], &[]);
     file(&mut book, 0, 567, 1, 1).expect("accepted");
     let steps = [
-        ("8) (set 4) (year 2014) (use 2) (family 64) (fcl 0", 3),
-        ("0) (set 4) (year 2014) (use 2) (family 64) (fcl 0", 4),
-        ("0) (set 3) (year 2014) (use 2) (family 64) (fcl 0", 5),
-        ("0) (set 3) (year 2016) (use 2) (family 64) (fcl 0", 5),
-        ("0) (set 3) (year 2015) (use 2) (family 64) (fcl 0", 6),
-        ("0) (set 0) (year 2015) (use 0) (family 64) (fcl 0", 6),
-        ("0) (set 1) (year 2015) (use 1) (family 64) (fcl 0", 6),
-        ("0) (set 3) (year 2015) (use 0) (family 64) (fcl 0", 7),
-        ("0) (set 3) (year 2015) (use 0) (family 0) (fcl 0", 8),
-        ("0) (set 3) (year 2015) (use 0) (family 0) (fcl 1", 9),
+        (
+            "8) (set 4) (year 2014) (use 2) (edition 3) (family 64",
+            0,
+            3,
+        ),
+        (
+            "0) (set 4) (year 2014) (use 2) (edition 3) (family 64",
+            0,
+            4,
+        ),
+        (
+            "0) (set 3) (year 2014) (use 2) (edition 3) (family 64",
+            0,
+            5,
+        ),
+        (
+            "0) (set 3) (year 2016) (use 2) (edition 3) (family 64",
+            0,
+            5,
+        ),
+        (
+            "0) (set 3) (year 2015) (use 2) (edition 3) (family 64",
+            0,
+            6,
+        ),
+        (
+            "0) (set 0) (year 2015) (use 0) (edition 3) (family 64",
+            0,
+            6,
+        ),
+        (
+            "0) (set 1) (year 2015) (use 1) (edition 3) (family 64",
+            0,
+            6,
+        ),
+        (
+            "0) (set 3) (year 2015) (use 0) (edition 3) (family 64",
+            0,
+            17,
+        ),
+        (
+            "0) (set 3) (year 2015) (use 0) (edition 2) (family 64",
+            0,
+            17,
+        ),
+        (
+            "0) (set 3) (year 2015) (use 0) (edition 1) (family 64",
+            0,
+            17,
+        ),
+        (
+            "0) (set 3) (year 2015) (use 0) (edition 0) (family 64",
+            0,
+            7,
+        ),
+        ("0) (set 3) (year 2015) (use 0) (edition 0) (family 0", 0, 8),
+        ("0) (set 3) (year 2015) (use 0) (edition 0) (family 0", 1, 9),
     ];
-    for (text, number) in steps {
-        let call = format!("(file (maker {text}) (cf 1) (volume 1) (life 1))");
+    for (text, fcl, number) in steps {
+        let call = format!("(file (maker {text}) (fcl {fcl}) (cf 1) (volume 1) (life 1))");
         assert_eq!(refusal_of(&book, &call), number, "{call}");
     }
 }
@@ -332,10 +379,9 @@ fn the_largest_year_keeps_the_book_sound() {
         for family in 0..64 {
             let tail = "(cf 1000000) (volume 100000) (life 500))";
             let head = format!("(file (maker {maker})");
-            let lowest =
-                format!("{head} (set 0) (year 2027) (use 0) (family {family}) (fcl 1) {tail}");
-            let highest =
-                format!("{head} (set 3) (year 2027) (use 1) (family {family}) (fcl 1200) {tail}");
+            let named = format!("(edition 0) (family {family})");
+            let lowest = format!("{head} (set 0) (year 2027) (use 0) {named} (fcl 1) {tail}");
+            let highest = format!("{head} (set 3) (year 2027) (use 1) {named} (fcl 1200) {tail}");
             say_all(&mut book, &[&lowest, &highest]);
         }
     }

@@ -3,7 +3,9 @@
 mod common;
 
 use common::*;
-use second::text::parse;
+use second::figuring::{Figures, MAX_CF, MAX_FCL, MAX_LIFE, MAX_VOLUME};
+use second::postings::{post, Call, Filing};
+use second::text::{parse, LINE_LIMIT};
 
 fn is_form(line: &str) -> bool {
     parse(line.as_bytes()).is_some()
@@ -70,6 +72,7 @@ fn near_forms_are_no_forms() {
         "(retire (maker 0)(set 0) (vintage 0) (mg 0))",
         "(trade (from 0) (to 0) (set 0) (vintage 0) (mg 0)",
         "(apply (maker 0) (set 0) (year 0) (vintage 0) (mg 0))",
+        "(file (maker 0) (set 0) (year 0) (use 0) (family 0) (fcl 0) (cf 0) (volume 0) (life 0))",
     ];
     for line in near {
         assert!(!is_form(line), "{line}");
@@ -77,23 +80,50 @@ fn near_forms_are_no_forms() {
     }
     assert!(is_form("(close (year 1))"));
     assert!(is_form("(retire (maker 0) (set 0) (vintage 0) (mg 0))"));
+    assert!(is_form(&filing_of(SHORTEST)));
 }
+
+/// A filing whose ten numbers have one digit each.
+const SHORTEST: usize = 99;
 
 /// A right filing but for its length; its maker is above 7.
 fn filing_of(length: usize) -> String {
-    let mut digits = [1; 9];
-    let shortest = 78 + digits.len();
-    let mut missing = length - shortest;
+    let mut digits = [1; 10];
+    let mut missing = length - SHORTEST;
     for count in &mut digits {
         let more = missing.min(11);
         *count += more;
         missing -= more;
     }
-    let [a, b, c, d, e, f, g, h, i] = digits.map(|count| "9".repeat(count));
+    let [a, b, c, d, e, f, g, h, i, j] = digits.map(|count| "9".repeat(count));
     format!(
-        "(file (maker {a}) (set {b}) (year {c}) (use {d}) (family {e}) (fcl {f}) (cf {g}) \
-         (volume {h}) (life {i}))"
+        "(file (maker {a}) (set {b}) (year {c}) (use {d}) (edition {e}) (family {f}) (fcl {g}) \
+         (cf {h}) (volume {i}) (life {j}))"
     )
+}
+
+/// Every number at its greatest, and no smaller one is longer.
+#[test]
+fn a_filing_that_is_taken_fits_on_a_line() {
+    let longest = Call::File(Filing {
+        maker: 7,
+        set: 3,
+        year: 2026,
+        usage: 1,
+        edition: 2,
+        family: 63,
+        figures: Figures {
+            fcl: MAX_FCL,
+            cf: MAX_CF,
+            volume: MAX_VOLUME,
+            life: MAX_LIFE,
+        },
+    });
+    let mut book = book(2026, &[], &[]);
+    assert!(post(&mut book, &longest).is_ok());
+    let line = longest.to_string();
+    assert_eq!(line.len(), 119);
+    assert!(line.len() <= LINE_LIMIT);
 }
 
 #[test]
@@ -102,7 +132,7 @@ fn a_line_has_at_most_160_bytes() {
         (159, "(no 3)\n"),
         (160, "(no 3)\n"),
         (161, "(no 1)\n"),
-        (186, "(no 1)\n"),
+        (209, "(no 1)\n"),
     ] {
         let line = filing_of(length);
         assert_eq!(line.len(), length);

@@ -33,6 +33,11 @@ const EDGES: &[&str] = &[
     "2014",
     "2015",
     "2016",
+    "2023",
+    "2024",
+    "2025",
+    "2026",
+    "2027",
     "2037",
     "2038",
     "2039",
@@ -92,19 +97,19 @@ const EDGES: &[&str] = &[
 ];
 
 const NAMES: &[&str] = &[
-    "maker", "set", "year", "use", "family", "fcl", "cf", "volume", "life", "from", "to",
-    "vintage", "mg", "file", "close", "trade", "apply", "retire", "fresh", "list", "MAKER",
-    "Maker", "make", "makers", "", "0", "ok", "no",
+    "maker", "set", "year", "use", "edition", "family", "fcl", "cf", "volume", "life", "from",
+    "to", "vintage", "mg", "file", "close", "trade", "apply", "retire", "fresh", "list", "MAKER",
+    "Maker", "make", "makers", "editions", "", "0", "ok", "no",
 ];
 
 /// A form as text that can be bent.
-struct Bent {
+pub(super) struct Bent {
     name: String,
-    fields: Vec<(String, String)>,
+    pub(super) fields: Vec<(String, String)>,
 }
 
 impl Bent {
-    fn of(call: &Call) -> Self {
+    pub(super) fn of(call: &Call) -> Self {
         let (name, fields) = call.form();
         Bent {
             name: name.into(),
@@ -115,7 +120,7 @@ impl Bent {
         }
     }
 
-    fn text(&self) -> String {
+    pub(super) fn text(&self) -> String {
         let mut text = format!("({}", self.name);
         for (field, number) in &self.fields {
             text += &format!(" ({field} {number})");
@@ -145,7 +150,8 @@ impl Script {
         };
         let mut form = Bent::of(&call);
         let length = self.rng.between(157, 164) as usize;
-        let first = self.rng.index(3);
+        // The maker, the set, the year, the use or the edition is refused.
+        let first = self.rng.index(5);
         for at in (first..form.fields.len()).chain(0..first) {
             let missing = length.saturating_sub(form.text().len());
             if let Some((_, number)) = form.fields.get_mut(at) {
@@ -273,7 +279,7 @@ impl Script {
         }
     }
 
-    fn say_text(&mut self, text: String) {
+    pub(super) fn say_text(&mut self, text: String) {
         self.say_bytes(text.as_bytes());
     }
 }

@@ -1,9 +1,10 @@
 //! Every family of every cell: a single year, and all years.
 
+use super::editions::edition_in_turn;
 use super::years::names;
 use super::Script;
 use crate::book::{CELLS, FAMILIES};
-use crate::figuring::{standard, Figures, MAX_CF, MAX_FCL, MAX_LIFE, MAX_VOLUME, YEARS};
+use crate::figuring::{named_standard, Figures, MAX_CF, MAX_FCL, MAX_LIFE, MAX_VOLUME, YEARS};
 use crate::postings::{Call, Filing};
 
 const POSTINGS_A_YEAR: usize = 100;
@@ -58,7 +59,8 @@ impl Script {
             Levels::Highest => 1,
         };
         let usage = if set >= 2 { usage } else { 0 };
-        let Some(standard) = standard(set, usage, year) else {
+        let edition = edition_in_turn(family, set, year);
+        let Some(standard) = named_standard(edition, set, usage, year) else {
             return;
         };
         let figures = match levels {
@@ -77,6 +79,7 @@ impl Script {
             set,
             year,
             usage,
+            edition,
             family,
             figures,
         }));

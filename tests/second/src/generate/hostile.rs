@@ -1,7 +1,7 @@
 //! Hostile sessions: edges of every limit, every refusal a terminal can give,
 //! near-forms, overlong and binary lines, among accepted calls.
 
-use super::Script;
+use super::{Script, TELLING_YEARS};
 use crate::postings::Call;
 
 /// Closings in a hostile session beside those that its lines happen to be.
@@ -22,15 +22,16 @@ impl Script {
         });
     }
 
-    /// Writes lines with closings between them, then an end that may lack
-    /// its line feed.
+    /// Writes lines with closings between them, twice as many in a telling
+    /// year, then an end that may lack its line feed.
     fn write_to_the_end(&mut self, lines: usize, mut write: impl FnMut(&mut Self)) {
-        let year = (lines / CLOSINGS).max(2);
+        let year = (lines / (CLOSINGS + TELLING_YEARS.count())).max(2);
         let mut closing = year;
         while self.lines < lines {
             if self.lines >= closing {
                 self.close();
-                closing = self.lines + year;
+                let spans = if self.is_telling_year() { 2 } else { 1 };
+                closing = self.lines + spans * year;
             } else {
                 write(self);
             }
@@ -51,6 +52,9 @@ impl Script {
     }
 
     fn hostile_line(&mut self) {
+        if self.edition_is_due() {
+            return self.edition_line();
+        }
         match self.rng.below(12) {
             0 | 1 => self.edges(),
             2 => self.long_numbers(),

@@ -1,6 +1,7 @@
 //! Sessions for testing, the same ones for the same kind, seed and length.
 
 mod bent;
+mod editions;
 mod full;
 mod hostile;
 mod refusals;
@@ -12,7 +13,12 @@ use crate::postings::{post, Call};
 use crate::text::parse;
 use rng::Rng;
 use std::fmt;
+use std::ops::RangeInclusive;
 use std::str::FromStr;
+
+/// The years of the alternative standards and one on either side, in which an
+/// edition tells most.
+pub const TELLING_YEARS: RangeInclusive<u64> = 2023..=2027;
 
 #[derive(Clone, Copy, Debug, PartialEq, Eq)]
 pub enum Kind {

@@ -3,7 +3,9 @@
 use super::years::{index, names};
 use super::Script;
 use crate::book::{CELLS, MAKERS};
-use crate::figuring::{standard, Figures, Mg, FIRST_YEAR, MAX_CF, MAX_FCL, MAX_LIFE, MAX_VOLUME};
+use crate::figuring::{
+    named_standard, Figures, Mg, FIRST_YEAR, MAX_CF, MAX_FCL, MAX_LIFE, MAX_VOLUME,
+};
 use crate::postings::{Application, Call, Filing, Retirement, Trade};
 
 impl Script {
@@ -18,15 +20,20 @@ impl Script {
         self.say(call);
     }
 
-    /// A filing with part 0, and the same once more: refusal 9.
+    /// A filing with part 0, and the same family once more, whatever edition
+    /// that names: refusal 9.
     fn file_nothing_twice(&mut self) {
         let Some(Call::File(mut filing)) = self.plausible_filing() else {
             return;
         };
-        let standard = standard(filing.set, filing.usage, filing.year).unwrap_or(1);
+        let Filing {
+            set, year, usage, ..
+        } = filing;
+        let standard = named_standard(filing.edition, set, usage, year).unwrap_or(1);
         filing.figures.fcl = u64::from(standard);
         self.say(Call::File(filing));
         filing.figures.fcl -= 1;
+        filing.edition = self.fitting_edition(set, year);
         self.say(Call::File(filing));
     }
 
@@ -99,11 +106,13 @@ impl Script {
     }
 
     fn near_filing(&mut self) -> Filing {
+        let (set, year) = (self.near(0, 3), self.near_open_year());
         Filing {
             maker: self.near(0, 7),
-            set: self.near(0, 3),
-            year: self.near_open_year(),
+            set,
+            year,
             usage: self.near(0, 1),
+            edition: self.near_edition(set, year),
             family: self.near(0, 63),
             figures: Figures {
                 fcl: self.near(1, MAX_FCL),

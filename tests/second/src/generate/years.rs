@@ -3,8 +3,8 @@
 use super::Script;
 use crate::book::{cell, CELLS, FAMILIES, MAKERS, SETS};
 use crate::figuring::{
-    is_live, is_open, standard, Figures, Mg, ALL_CLOSED, FIRST_YEAR, HALF_A_MG, MAX_CF, MAX_LIFE,
-    MAX_VOLUME, PARTS_IN_A_MG, YEARS,
+    is_live, is_open, named_standard, standard, Figures, Mg, ALL_CLOSED, FIRST_YEAR, HALF_A_MG,
+    MAX_CF, MAX_LIFE, MAX_VOLUME, PARTS_IN_A_MG, YEARS,
 };
 use crate::postings::{Application, Call, Filing, Retirement, Trade};
 
@@ -59,7 +59,9 @@ impl Script {
             return None;
         }
         let usage = if set >= 2 { self.rng.below(2) } else { 0 };
-        let standard = standard(set, usage, year)?;
+        let edition = self.plausible_edition(set, year);
+        let standard =
+            named_standard(edition, set, usage, year).or_else(|| standard(set, usage, year))?;
         let family = self.plausible_family(cell_named)?;
         let leaning = self.leaning[cell_named];
         let level = i64::from(standard) + leaning + self.rng.below(11) as i64 - 5;
@@ -77,6 +79,7 @@ impl Script {
             set,
             year,
             usage,
+            edition,
             family,
             figures: Figures {
                 fcl: level.max(1) as u64,
@@ -218,7 +221,9 @@ impl Script {
             .unwrap_or(first);
         let (maker, set) = names(cell_named);
         let year = self.book.open_year;
-        let Some(standard) = standard(set, 0, year).filter(|_| year != ALL_CLOSED) else {
+        let edition = self.fitting_edition(set, year);
+        let standard = named_standard(edition, set, 0, year);
+        let Some(standard) = standard.filter(|_| year != ALL_CLOSED) else {
             return;
         };
         let sum = self.sum(cell_named);
@@ -251,6 +256,7 @@ impl Script {
                 set,
                 year,
                 usage: 0,
+                edition,
                 family: u64::from(free),
                 figures: Figures {
                     fcl: level.max(1) as u64,

@@ -4,9 +4,11 @@
 
 use second::book::{cell, Book};
 use second::figuring::{Mg, Part};
-use second::postings::{post, Answer, Refusal, Results};
+use second::generate::{session, Kind};
+use second::postings::{post, Answer, Call, Filing, Refusal, Results};
 use second::session::Session;
 use second::text::parse;
+use std::ops::Range;
 
 /// The whole output of an audited session, handed over in pieces.
 pub fn output_in_pieces(input: &[u8], piece: usize) -> String {
@@ -19,6 +21,22 @@ pub fn output_in_pieces(input: &[u8], piece: usize) -> String {
 
 pub fn output(input: &str) -> String {
     output_in_pieces(input.as_bytes(), 1 << 16)
+}
+
+/// The filings of generated sessions, each with its answer.
+pub fn filings(kind: Kind, seeds: Range<u64>) -> Vec<(Filing, Answer)> {
+    let mut seen = Vec::new();
+    for seed in seeds {
+        let mut book = Book::fresh();
+        let input = session(kind, seed, kind.usual_lines());
+        for call in input.split(|&byte| byte == b'\n').filter_map(parse) {
+            let answer = post(&mut book, &call);
+            if let Call::File(filing) = call {
+                seen.push((filing, answer));
+            }
+        }
+    }
+    seen
 }
 
 /// Posts a call written as terminal text.
@@ -38,7 +56,7 @@ pub fn file(book: &mut Book, family: u64, fcl: u64, cf: u64, volume: u64) -> Ans
     say(
         book,
         &format!(
-            "(file (maker 0) (set 3) (year {year}) (use 0) (family {family}) \
+            "(file (maker 0) (set 3) (year {year}) (use 0) (edition 0) (family {family}) \
              (fcl {fcl}) (cf {cf}) (volume {volume}) (life 1))"
         ),
     )

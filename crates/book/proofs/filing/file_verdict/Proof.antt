@@ -34,6 +34,9 @@ start-6 c = start-5 (c .before .before)
 abbrev start-7 : tie.Else7 → tie.Start
 start-7 c = start-6 (c .before .before)
 
+abbrev start-8 : tie.Else8 → tie.Start
+start-8 c = start-7 (c .before .before)
+
 past-1 : (c : tie.Else1) → Past 1 (rows (start-1 c))
 unfolding fileRows
 past-1 c = rw (lt-leb _ _ (c .if1 .left))
@@ -58,11 +61,15 @@ past-5 c =
 
 past-6 : (c : tie.Else6) → Past 6 (rows (start-6 c))
 unfolding fileRows
-past-6 c = past-5 (c .before .before) ∙ rw (lt-leb _ _ (c .if6 .left))
+past-6 c = past-5 (c .before .before) ∙ rw (← (c .before .no-edition .ensures), c .if6 .left)
 
 past-7 : (c : tie.Else7) → Past 7 (rows (start-7 c))
 unfolding fileRows
-past-7 c = past-6 (c .before .before) ∙ rw (not-of (c .before .within-limits .ensures) (c .if7 .left))
+past-7 c = past-6 (c .before .before) ∙ rw (lt-leb _ _ (c .if7 .left))
+
+past-8 : (c : tie.Else8) → Past 8 (rows (start-8 c))
+unfolding fileRows
+past-8 c = past-7 (c .before .before) ∙ rw (not-of (c .before .within-limits .ensures) (c .if8 .left))
 
 returns : tie.Need-returns
 unfolding fileRows
@@ -93,16 +100,23 @@ returns-5 c =
     (past-4 (c .before .before .before)
     ∙ rw (← (c .before .before .standard-for .ensures), ← (c .before .is-absent .ensures), c .if5 .taken))
 
+no-edition-requires : tie.Need-no-edition-requires
+no-edition-requires c κs = search needs
+
 returns-6 : tie.Need-returns-6
 unfolding fileRows
-returns-6 c = sym (past-5 (c .before .before) ∙ rw (le-leb _ _ (c .if6 .taken)))
+returns-6 c = sym (past-5 (c .before .before) ∙ rw (← (c .before .no-edition .ensures), c .if6 .taken))
+
+returns-7 : tie.Need-returns-7
+unfolding fileRows
+returns-7 c = sym (past-6 (c .before .before) ∙ rw (le-leb _ _ (c .if7 .taken)))
 
 within-limits-requires : tie.Need-within-limits-requires
 within-limits-requires c κs = search needs
 
-returns-7 : tie.Need-returns-7
+returns-8 : tie.Need-returns-8
 unfolding fileRows
-returns-7 c = sym (past-6 (c .before .before) ∙ rw (not-of (c .before .within-limits .ensures) (c .if7 .taken)))
+returns-8 c = sym (past-7 (c .before .before) ∙ rw (not-of (c .before .within-limits .ensures) (c .if8 .taken)))
 
 mul-cell : tie.Need-mul-cell
 mul-cell c = search needs
@@ -119,15 +133,15 @@ element-copy-out-is-marked c = search needs
 is-marked-requires : tie.Need-is-marked-requires
 is-marked-requires c κs = search needs
 
-returns-8 : tie.Need-returns-8
-unfolding fileRows
-returns-8 c =
-    sym (past-7 (c .before .before .before .before .before) ∙ rw (← (c .before .is-marked .ensures), c .if8 .taken))
-
 returns-9 : tie.Need-returns-9
 unfolding fileRows
 returns-9 c =
-    sym (past-7 (c .before .before .before .before .before) ∙ rw (← (c .before .is-marked .ensures), c .if8 .left))
+    sym (past-8 (c .before .before .before .before .before) ∙ rw (← (c .before .is-marked .ensures), c .if9 .taken))
+
+returns-10 : tie.Need-returns-10
+unfolding fileRows
+returns-10 c =
+    sym (past-8 (c .before .before .before .before .before) ∙ rw (← (c .before .is-marked .ensures), c .if9 .left))
 
 pub file-verdict-spec : {M : Type 1} → statement M
 file-verdict-spec =
@@ -140,13 +154,15 @@ file-verdict-spec =
     standard-for-requires
     is-absent-requires
     returns-5
+    no-edition-requires
     returns-6
-    within-limits-requires
     returns-7
+    within-limits-requires
+    returns-8
     mul-cell
     add-cell
     mul-is-marked
     element-copy-out-is-marked
     is-marked-requires
-    returns-8
-    returns-9)
+    returns-9
+    returns-10)

@@ -5,10 +5,10 @@ use second::book::{
     cell, Book, CELLS, FAMILIES, LOTS_LIMIT, MAKERS, PART_LIMIT, SETS, SHORTAGE_LIMIT,
 };
 use second::figuring::{
-    is_live, is_open, year_index, Figures, Mg, ALL_CLOSED, FIRST_YEAR, LAST_YEAR, MAX_CF, MAX_FCL,
-    MAX_LIFE, MAX_VOLUME, YEARS,
+    is_live, is_open, named_standard, year_index, Figures, Mg, ALL_CLOSED, FIRST_YEAR, LAST_YEAR,
+    MAX_CF, MAX_FCL, MAX_LIFE, MAX_VOLUME, YEARS,
 };
-use second::generate::rng::Rng;
+use second::generate::{rng::Rng, TELLING_YEARS};
 use second::postings::{Application, Call, Filing, Retirement, Trade};
 
 // A call's kind; the last, 4, is a retirement.
@@ -22,14 +22,15 @@ pub fn kind_of(words: &[u64; CALL_WORDS]) -> usize {
 }
 
 pub fn call_of(words: &[u64; CALL_WORDS]) -> Call {
-    let [_, a, b, c, d, e, fcl, cf, volume, life] = *words;
+    let [_, a, b, c, d, e, family, fcl, cf, volume, life] = *words;
     match kind_of(words) {
         FILE => Call::File(Filing {
             maker: a,
             set: b,
             year: c,
             usage: d,
-            family: e,
+            edition: e,
+            family,
             figures: Figures {
                 fcl,
                 cf,
@@ -67,6 +68,7 @@ enum Role {
     Set,
     OpenYear,
     Usage,
+    Edition,
     Family,
     /// A figure with its greatest value.
     UpTo(u64),
@@ -75,15 +77,16 @@ enum Role {
     Amount,
 }
 
-use Role::{Amount, Family, Maker, OpenYear, Set, ShortYear, UpTo, Usage, Vintage};
+use Role::{Amount, Edition, Family, Maker, OpenYear, Set, ShortYear, UpTo, Usage, Vintage};
 
-/// The arguments of each kind, in document 01's order.
+/// The arguments of each kind, in the order of its form.
 const ROLES: [&[Role]; 5] = [
     &[
         Maker,
         Set,
         OpenYear,
         Usage,
+        Edition,
         Family,
         UpTo(MAX_FCL),
         UpTo(MAX_CF),
@@ -99,7 +102,7 @@ const ROLES: [&[Role]; 5] = [
 /// A call that the book would accept where it can, or one with some of its
 /// arguments at or past an edge; whatever in the arguments that it lacks.
 pub fn call_on(book: &Book, rng: &mut Rng) -> [u64; CALL_WORDS] {
-    let kind = rng.index(ROLES.len());
+    let kind = kind_on(book, rng);
     let mut words = [0; CALL_WORDS];
     words.fill_with(|| any(rng));
     words[0] = kind as u64;
@@ -120,6 +123,15 @@ pub fn call_on(book: &Book, rng: &mut Rng) -> [u64; CALL_WORDS] {
     words
 }
 
+/// Any; in the telling years half of the time a filing.
+fn kind_on(book: &Book, rng: &mut Rng) -> usize {
+    if TELLING_YEARS.contains(&book.open_year) && rng.once_in(2) {
+        FILE
+    } else {
+        rng.index(ROLES.len())
+    }
+}
+
 fn aimed(book: &Book, rng: &mut Rng, kind: usize) -> Vec<u64> {
     match kind {
         FILE => aimed_filing(book, rng),
@@ -137,6 +149,7 @@ fn aimed_filing(book: &Book, rng: &mut Rng) -> Vec<u64> {
         rng.index(SETS)
     };
     let usage = if set < 2 { 0 } else { rng.below(2) };
+    let edition = aimed_edition(rng, set as u64, book.open_year);
     let mark = book.marks[cell(maker, set)];
     let wanted = u64::from(rng.once_in(10));
     let family = from_anywhere(rng, FAMILIES, |family| mark >> family & 1 == wanted);
@@ -145,6 +158,7 @@ fn aimed_filing(book: &Book, rng: &mut Rng) -> Vec<u64> {
         set as u64,
         book.open_year,
         usage,
+        edition,
         family as u64,
     ];
     for most in [MAX_FCL, MAX_CF, MAX_VOLUME, MAX_LIFE] {
@@ -162,6 +176,16 @@ fn aimed_filing(book: &Book, rng: &mut Rng) -> Vec<u64> {
         });
     }
     words
+}
+
+/// One that the set and year have, at times any of 0 to 3.
+fn aimed_edition(rng: &mut Rng, set: u64, year: u64) -> u64 {
+    let alternative = named_standard(1, set, 0, year).is_some();
+    match rng.below(5) {
+        0 => rng.below(4),
+        _ if alternative => rng.below(3),
+        _ => 0,
+    }
 }
 
 /// A trade or a retirement.
@@ -264,7 +288,7 @@ fn edge(book: &Book, rng: &mut Rng, words: &[u64; CALL_WORDS], role: Role, now: 
         Maker => rng.between(6, 9),
         Set => rng.below(6),
         OpenYear => years[rng.index(years.len())],
-        Usage => rng.below(4),
+        Usage | Edition => rng.below(4),
         Family => [0, 62, 63, 64, 65][rng.index(5)],
         UpTo(most) => [0, 1, most, most + 1, most - 1][rng.index(5)],
         // One year on either side of the last that is live, or open.

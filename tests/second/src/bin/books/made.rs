@@ -7,7 +7,7 @@ use second::book::{
 use second::figuring::{
     Mg, Part, ALL_CLOSED, FIRST_YEAR, HALF_A_MG, LAST_YEAR, PARTS_IN_A_MG, YEARS,
 };
-use second::generate::rng::Rng;
+use second::generate::{rng::Rng, TELLING_YEARS};
 
 /// How a book is made.
 #[derive(Clone, Copy, Debug)]
@@ -71,13 +71,22 @@ impl Make {
     pub fn book(self, rng: &mut Rng) -> Book {
         match self {
             Make::Sound => {
-                let open_year = rng.between(FIRST_YEAR, ALL_CLOSED);
+                let open_year = some_open_year(rng);
                 sound_book(rng, open_year)
             }
             Make::Fault(fault) => faulty_book(rng, fault),
             Make::Touched => touched_book(rng),
             Make::Wild => wild_book(rng),
         }
+    }
+}
+
+/// Any, and often a telling one.
+fn some_open_year(rng: &mut Rng) -> u64 {
+    if rng.once_in(3) {
+        rng.between(*TELLING_YEARS.start(), *TELLING_YEARS.end())
+    } else {
+        rng.between(FIRST_YEAR, ALL_CLOSED)
     }
 }
 

@@ -4,7 +4,7 @@
 //!
 //! PROGRAM reads records to the end of its input and ignores a last one that
 //! is cut short. A record is 3,617 words of a book, then a call's kind and
-//! nine arguments; its answer is the book's soundness, the refusal or 0, two
+//! ten arguments; its answer is the book's soundness, the refusal or 0, two
 //! values, and the book after it. A word is 64 bits, low byte first. A kind
 //! that is none ends PROGRAM with a message, and is tried first.
 
@@ -17,7 +17,7 @@ use second::asked::answered;
 use second::book::{Book, CELLS, FAMILIES};
 use second::figuring::{FIRST_YEAR, YEARS};
 use second::generate::rng::Rng;
-use second::postings::{post, Answer, Results};
+use second::postings::{post, Answer, Call, Results};
 use std::ffi::OsStr;
 use std::io::{self, BufReader, BufWriter, Read, Write};
 use std::process::{ChildStdin, Command, ExitCode, Output, Stdio};
@@ -27,7 +27,7 @@ use std::time::Instant;
 
 const PROGRESS_EVERY: u64 = 2_000;
 const BOOK_WORDS: usize = 1 + CELLS + CELLS * FAMILIES + 2 * CELLS * YEARS;
-const CALL_WORDS: usize = 10;
+const CALL_WORDS: usize = 11;
 const RECORD_WORDS: usize = BOOK_WORDS + CALL_WORDS;
 const ANSWER_WORDS: usize = 4;
 const BYTES: usize = 8;
@@ -278,7 +278,9 @@ struct Tally {
     books: u64,
     sound: u64,
     accepted: [u64; 5],
-    refused: [u64; 17],
+    /// Accepted filings, by their edition.
+    filed_under: [u64; 3],
+    refused: [u64; 18],
 }
 
 impl Tally {
@@ -288,6 +290,9 @@ impl Tally {
         match answer {
             Ok(_) => self.accepted[kind_of(&case.call)] += 1,
             Err(refusal) => self.refused[usize::from(refusal.number())] += 1,
+        }
+        if let (Call::File(filing), Ok(_)) = (call_of(&case.call), answer) {
+            self.filed_under[filing.edition as usize] += 1;
         }
     }
 
@@ -306,9 +311,10 @@ impl Tally {
 
     fn by_kind(&self) -> String {
         let [file, close, trade, apply, retire] = self.accepted;
+        let [ordinary, earlier, later] = self.filed_under;
         let Tally { books, sound, .. } = self;
         format!(
-            "{sound} of {books} books sound; accepted: file {file}, close {close}, trade {trade}, apply {apply}, retire {retire}"
+            "{sound} of {books} books sound; accepted: file {file} (by edition {ordinary}, {earlier}, {later}), close {close}, trade {trade}, apply {apply}, retire {retire}"
         )
     }
 }

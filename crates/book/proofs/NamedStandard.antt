@@ -1,0 +1,35 @@
+-- Card 5: an accepted filing has passed 6 and 17, so the edition that it names has a standard, and its part is by it.
+use mathlib.Core.Bool.{true, false≢true}
+use mathlib.Core.Path.{_≡_, refl}
+use Rattle.figuring.specs.Standards.{gramsOf}
+use Rattle.figuring.specs.Editions.{standardUnder}
+use Rattle.figuring.proofs.EditionLaws.{named}
+use Rattle.book.specs.Refusals.{valuesIn, resultIn}
+use Rattle.book.specs.Postings.{partFor, stored}
+use Rattle.book.specs.Rules.{posted, done}
+use Rattle.book.specs.Demand3.{isAccepted}
+use Rattle.book.specs.Editions.{UnderNamed}
+use Rattle.book.specs.declared.ledger.Book.{Book}
+use Rattle.book.specs.declared.kinds.Call.{Call}
+use Rattle.book.specs.declared.kinds.Filing.{Filing}
+use Rattle.book.proofs.TableLaws.{by-verdict}
+use Rattle.book.proofs.FileFacts.{accepted-filing}
+
+answers-part :
+    (b : Book) (f : Filing) → isAccepted (posted b (Call.File f) .answer) ≡ true
+    → resultIn (posted b (Call.File f) .answer) 0 ≡ partFor f
+unfolding done stored isAccepted valuesIn
+answers-part b f =
+    by-verdict b (Call.File f) (λ p. isAccepted (p .answer) ≡ true → resultIn (p .answer) 0 ≡ partFor f)
+    (λ r a. absurd (false≢true a)) (λ s e a. refl)
+
+pub under-named : (b : Book) (f : Filing) → UnderNamed b f
+unfolding partFor
+under-named b f a =
+    let h = accepted-filing b f a in
+    record {
+      standard = gramsOf (standardUnder (f .edition) (f .set) (f .«vehicle_use») (f .year));
+      named = named (f .set) (f .«vehicle_use») (f .year) (h .standard) (f .edition) (h .edition);
+      part = refl;
+      answered = answers-part b f a;
+    }

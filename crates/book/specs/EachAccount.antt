@@ -27,8 +27,8 @@ example =
     ∷ turnedDown (Call.Trade (record { from = 0; to = 1; set = 3; vintage = 2014; mg = 1000 }))
     ∷ []
 
--- Card 5: heavy families of 2025 that are alike but for their maker, use and edition, each 1 g/hp-hr below the ordinary
--- standard, so that each gram is 1 Mg; and the close
+-- Card 5: heavy families of 2025 that are alike but for maker, use and edition, each 1 g/hp-hr below the ordinary
+-- standard, with figures by which 1 g/hp-hr is 1 Mg; and the close
 abbrev pub heavyWith : ℕ → ℕ → ℕ → ℕ → Call
 heavyWith maker vehicleUse edition fcl =
     Call.File (record {

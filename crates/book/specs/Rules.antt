@@ -1,5 +1,6 @@
 -- What a call gives, for any book and any call: the head of the refusals, then the call's own, each in the order of
--- document 01's "Refusal list", then the outcome. `CheckingOrder` has the tables by the paper's numbers.
+-- document 01's "Refusal list", with card 5's 17 after 6; then the outcome. `CheckingOrder` has the tables by the papers'
+-- numbers.
 -- "A call skips the entries that don't concern it." Entries 3 (in a trade), 5 and 14 are two tests, so two rows.
 use Prim.Native.Nat.{ℕ}
 use mathlib.Core.Bool.{Bool, not}

@@ -1,14 +1,18 @@
 -- Card 5: an accepted filing has passed 6 and 17, so the edition that it names has a standard, and its part is by it.
+-- And which of 6 and 17 a filing gets.
 use mathlib.Core.Bool.{true, false≢true}
 use mathlib.Core.Path.{_≡_, refl}
+use native.Mathlib.Omega.{arith}
+use borrow.Author.Tests.{lt-leb, eq-eqb, ne-eqb}
 use Rattle.figuring.specs.Standards.{gramsOf}
 use Rattle.figuring.specs.Editions.{standardUnder}
 use Rattle.figuring.proofs.EditionLaws.{named}
-use Rattle.book.specs.Refusals.{valuesIn, resultIn}
+use Rattle.book.specs.Sizes.{makers, sets, allClosed}
+use Rattle.book.specs.Refusals.{refusalIn, valuesIn, resultIn}
 use Rattle.book.specs.Postings.{partFor, stored}
-use Rattle.book.specs.Rules.{posted, done}
+use Rattle.book.specs.Rules.{posted, table, headRows, ownRows, fileRows, done}
 use Rattle.book.specs.Demand3.{isAccepted}
-use Rattle.book.specs.Editions.{UnderNamed}
+use Rattle.book.specs.Editions.{UnderNamed, Reaches6, SixThenSeventeen}
 use Rattle.book.specs.declared.ledger.Book.{Book}
 use Rattle.book.specs.declared.kinds.Call.{Call}
 use Rattle.book.specs.declared.kinds.Filing.{Filing}
@@ -33,3 +37,13 @@ under-named b f a =
       part = refl;
       answered = answers-part b f a;
     }
+
+-- 6 and 17, where the entries before 6 have passed
+pub six-then-seventeen : (b : Book) (f : Filing) → Reaches6 b f → SixThenSeventeen b f
+unfolding posted table headRows ownRows fileRows refusalIn
+six-then-seventeen b f h =
+    let m = lt-leb makers (f .maker) (h .maker) in
+    let s = lt-leb sets (f .set) (h .set) in
+    let y = eq-eqb (f .year) (b .«open_year») (h .year) in
+    let o = ne-eqb (b .«open_year») allClosed (λ e. omega (arith, h .not-all-closed)) in
+    record { six = λ a. rw (h .sound, m, s, y, o, a); seventeen = λ a n. rw (h .sound, m, s, y, o, a, n) }

@@ -1,12 +1,15 @@
 -- Card 5, "Alternative standards, two editions", in the book: "Balances account for families under the standard they
--- named." The proof is in proofs/NamedStandard.antt.
-use Prim.Native.Nat.{ℕ}
-use mathlib.Core.Bool.{true}
+-- named", and 17 is "checked after 6". The proofs are in proofs/NamedStandard.antt.
+use Prim.Native.Nat.{ℕ, _<_}
+use mathlib.Core.Bool.{true, false}
 use mathlib.Core.Path.{_≡_}
-use Rattle.figuring.specs.Editions.{standardUnder}
+use Rattle.figuring.specs.Standards.{standardFor, isAbsent}
+use Rattle.figuring.specs.Editions.{standardUnder, noEdition}
 use Rattle.figuring.specs.Parts.{partOf}
 use Rattle.figuring.specs.declared.standards.Standard.the-variants.{Given}
-use Rattle.book.specs.Refusals.{resultIn}
+use Rattle.book.specs.Sizes.{makers, sets, allClosed}
+use Rattle.book.specs.Soundness.{sound}
+use Rattle.book.specs.Refusals.{refusalIn, resultIn}
 use Rattle.book.specs.Postings.{partFor}
 use Rattle.book.specs.Rules.{posted}
 use Rattle.book.specs.Demand3.{isAccepted}
@@ -25,3 +28,21 @@ pub record ByNamed (b : Book) (f : Filing) : Type 0 where
 -- every filing that is accepted, by whatever book
 abbrev pub UnderNamed : Book → Filing → Type 0
 UnderNamed b f = isAccepted (posted b (Call.File f) .answer) ≡ true → ByNamed b f
+
+-- a filing that no entry before 6 refuses
+pub record Reaches6 (b : Book) (f : Filing) : Type 0 where
+  pub sound : sound b ≡ true
+  pub maker : f .maker < makers
+  pub set : f .set < sets
+  pub year : f .year ≡ b .«open_year»
+  pub not-all-closed : b .«open_year» < allClosed
+
+-- Whatever its edition, 6 goes by the ordinary standard. Where there is one, 17 answers, whatever the family's number and
+-- figures, and a family that is filed already.
+pub record SixThenSeventeen (b : Book) (f : Filing) : Type 0 where
+  pub six :
+      isAbsent (standardFor (f .set) (f .«vehicle_use») (f .year)) ≡ true
+      → refusalIn (posted b (Call.File f) .answer) ≡ 6
+  pub seventeen :
+      isAbsent (standardFor (f .set) (f .«vehicle_use») (f .year)) ≡ false
+      → noEdition (f .edition) (f .set) (f .year) ≡ true → refusalIn (posted b (Call.File f) .answer) ≡ 17

@@ -37,8 +37,8 @@ pub record Reaches6 (b : Book) (f : Filing) : Type 0 where
   pub year : f .year ≡ b .«open_year»
   pub not-all-closed : b .«open_year» < allClosed
 
--- Whatever its edition, 6 goes by the ordinary standard. Where there is one, 17 answers, whatever the family's number and
--- figures, and a family that is filed already.
+-- Whatever the edition, 6 goes by the ordinary standard. Where there is one, and the edition is none of its set and year,
+-- 17 answers, whatever the family's number and figures, filed already or not.
 pub record SixThenSeventeen (b : Book) (f : Filing) : Type 0 where
   pub six :
       isAbsent (standardFor (f .set) (f .«vehicle_use») (f .year)) ≡ true

@@ -1,21 +1,24 @@
 -- Card 5: an accepted filing has passed 6 and 17, so the edition that it names has a standard, and its part is by it.
 -- And which of 6 and 17 a filing gets.
-use mathlib.Core.Bool.{true, false≢true}
-use mathlib.Core.Path.{_≡_, refl}
+use mathlib.Core.Bool.{true, false, false≢true}
+use mathlib.Core.Path.{_≡_, refl, _∙_, ap}
 use native.Mathlib.Omega.{arith}
 use borrow.Author.Tests.{lt-leb, eq-eqb, ne-eqb}
 use Rattle.figuring.specs.Standards.{gramsOf}
-use Rattle.figuring.specs.Editions.{standardUnder}
-use Rattle.figuring.proofs.EditionLaws.{named}
+use Rattle.figuring.specs.Editions.{standardUnder, noEdition}
+use Rattle.figuring.proofs.EditionLaws.{named, card-editions}
 use Rattle.book.specs.Sizes.{makers, sets, allClosed}
-use Rattle.book.specs.Refusals.{refusalIn, valuesIn, resultIn}
+use Rattle.book.specs.Refusals.{firstRefusal, refusalIn, valuesIn, resultIn}
 use Rattle.book.specs.Postings.{partFor, stored}
-use Rattle.book.specs.Rules.{posted, table, headRows, ownRows, fileRows, done}
+use Rattle.book.specs.Rules.{posted, table, headRows, ownRows, fileRows, done, outcome}
 use Rattle.book.specs.Demand3.{isAccepted}
-use Rattle.book.specs.Editions.{UnderNamed, Reaches6, SixThenSeventeen}
+use Rattle.book.specs.Editions.{UnderNamed, Reaches6, SixThenSeventeen, ElseTheSame, withEdition}
 use Rattle.book.specs.declared.ledger.Book.{Book}
 use Rattle.book.specs.declared.kinds.Call.{Call}
 use Rattle.book.specs.declared.kinds.Filing.{Filing}
+use Rattle.book.specs.declared.answers.Answer.{Answer}
+use Rattle.book.specs.declared.answers.Verdict.{Verdict}
+use Rattle.book.specs.declared.answers.Verdict.the-variants.{Accepted, Refuse}
 use Rattle.book.proofs.TableLaws.{by-verdict}
 use Rattle.book.proofs.FileFacts.{accepted-filing}
 
@@ -47,3 +50,34 @@ six-then-seventeen b f h =
     let y = eq-eqb (f .year) (b .«open_year») (h .year) in
     let o = ne-eqb (b .«open_year») allClosed (λ e. omega (arith, h .not-all-closed)) in
     record { six = λ a. rw (h .sound, m, s, y, o, a); seventeen = λ a n. rw (h .sound, m, s, y, o, a, n) }
+
+-- An edition that 17 lets pass: the rows read no more of it, so the verdict is that with edition 0.
+module _ (b : Book) (f : Filing) (n : noEdition (f .edition) (f .set) (f .year) ≡ false) where
+  abbrev ordinary : Call
+  ordinary = Call.File (withEdition f 0)
+
+  same-verdict : firstRefusal (table b (Call.File f)) ≡ firstRefusal (table b ordinary)
+  unfolding table ownRows fileRows
+  same-verdict = rw (n, card-editions .ordinary (f .set) (f .«vehicle_use») (f .year) .1)
+
+  -- what reads of an accepted answer no part
+  same-answer :
+      {X : Type 0} (read : Answer → X) → read (done b (Call.File f) .answer) ≡ read (done b ordinary .answer)
+      → read (posted b (Call.File f) .answer) ≡ read (posted b ordinary .answer)
+  unfolding posted
+  same-answer read e =
+      ap (λ (v : Verdict). read (outcome v b (done b (Call.File f)) .answer)) same-verdict
+      ∙ by-cases (firstRefusal (table b ordinary))
+    where
+      by-cases :
+          (v : Verdict) → read (outcome v b (done b (Call.File f)) .answer) ≡ read (outcome v b (done b ordinary) .answer)
+      by-cases Accepted = e
+      by-cases (Refuse r) = refl
+
+pub else-the-same : (b : Book) (f : Filing) → ElseTheSame b f
+unfolding done stored refusalIn valuesIn
+else-the-same b f n =
+    record {
+      refusal = same-answer b f n refusalIn refl;
+      count = same-answer b f n (λ a. resultIn a 1) refl;
+    }

@@ -10,7 +10,7 @@ ghost use Rattle.book.specs.Demand3.{Demand3};
 ghost use Rattle.book.specs.Companions.{KeepsSound, NeverUnsound, Stays, StrikeOut};
 ghost use Rattle.book.specs.FilingOrder.{FilingOrder, EachAlone, SaysNoLess};
 ghost use Rattle.book.specs.FiveDecimals.{SameSessions, SoundParts};
-ghost use Rattle.book.specs.Editions.{Reaches6, SixThenSeventeen, UnderNamed};
+ghost use Rattle.book.specs.Editions.{ElseTheSame, Reaches6, SixThenSeventeen, UnderNamed};
 ghost use Rattle.book.specs.Marked.{MarkedFigures};
 ghost use Rattle.book.specs.EachAccount.{EachAccount};
 ghost use Rattle.book.specs.declared.ledger.Book.{Book};
@@ -109,10 +109,12 @@ pub fn same_sessions() -> bool
     true
 }
 
-// Card 5: an accepted filing is figured under the standard that it named; and 6 goes by the ordinary one, before 17.
+// Card 5: an accepted filing is figured under the standard that it named; 6 goes by the ordinary one, before 17; and an
+// edition that 17 lets pass changes nothing but the part.
 pub fn under_named() -> bool
     ensures { λ r. ⌜ (r ≡ true) × ((b : Book) (f : Filing) → UnderNamed b f)
-        × ((b : Book) (f : Filing) → Reaches6 b f → SixThenSeventeen b f) ⌝ }
+        × ((b : Book) (f : Filing) → Reaches6 b f → SixThenSeventeen b f)
+        × ((b : Book) (f : Filing) → ElseTheSame b f) ⌝ }
 {
     true
 }

@@ -10,13 +10,15 @@ use lib.ListN.{set as store, length, replicate, length-set, length-replicate}
 use lib.IntN.{ℤ, pos}
 use Rattle.figuring.specs.Years.{firstYear, lastYear}
 use Rattle.book.specs.Sizes.{makers, sets, cells, families, places, allParts}
+use Rattle.book.specs.Below.{sumBelowℤ}
 use Rattle.book.specs.Ledger.{Key, key, In, cell, figureAt, lower, raise, partAt, cellSum}
 use Rattle.book.specs.Postings.{netted}
 use Rattle.book.specs.Accounts.{Accounts, bought, sold, applied, retired, covered}
-use Rattle.book.specs.Accounts.{sameKey, only, plusℤ, inYear}
+use Rattle.book.specs.Accounts.{sameKey, only, put, inYear}
 use Rattle.book.specs.Demand3.{Reconciled}
 use Rattle.book.specs.declared.ledger.Book.{Book}
-use Rattle.book.proofs.LedgerLaws.{at-raise, at-lower, length-raise, length-lower, netted-length, netted-in, netted-out, same-cell, other-year, onlyℤ-false, cellSum-put, cellSum-cleared}
+use Rattle.book.proofs.LedgerLaws.{at-raise, at-lower, length-raise, length-lower, netted-length, netted-in, netted-out, same-cell, other-year, part-stored, no-part}
+use Rattle.book.proofs.BelowLaws.{sumℤ-same}
 
 -- n more at k, and the rest as before
 abbrev plus : Key → ℕ → (Key → ℕ) → Key → ℕ
@@ -74,44 +76,47 @@ module _ {Y : ℕ} {l : List ℕ} {net came went : Key → ℕ} (h : Tied Y l ne
           (omega (arith, h .balance k i, h .ahead k i (omega arith), zero k i p))
       go k i (no p) = rw (ne-eqb (k .year) Y p, netted-out Y v l k i low high p) (h .balance k i)
 
--- the sums of the open year Y are those of the book's parts, and no later year has one
-pub record Sums (Y : ℕ) (parts : List ℤ) (sum : Key → ℤ) : Type 0 where
+-- the families' parts of the open year Y, as the book and the accounts have them; no later year has one
+pub record Families (Y : ℕ) (parts : List ℤ) (last : Key → ℕ → ℤ) : Type 0 where
   pub size : length parts ≡ allParts
-  pub current : (m s : ℕ) → m < makers → s < sets → sum (key m s Y) ≡ cellSum parts (cell m s)
-  pub later : (k : Key) → Y < k .year → sum k ≡ pos 0
+  pub current :
+      (m s f : ℕ) → m < makers → s < sets → f < families → last (key m s Y) f ≡ partAt parts (cell m s) f
+  pub later : (k : Key) (f : ℕ) → Y < k .year → last k f ≡ pos 0
 
-module _ {Y : ℕ} {parts : List ℤ} {sum : Key → ℤ} (h : Sums Y parts sum) where
-  -- a part stored where there was none
-  pub sums-put :
-      (m s f y : ℕ) (z : ℤ) → m < makers → s < sets → f < families → y ≡ Y → partAt parts (cell m s) f ≡ pos 0
-      → Sums Y (store parts (cell m s * families + f) z) (plusℤ (key m s y) z sum)
-  sums-put m s f y z hm hs hf e zero =
+module _ {Y : ℕ} {parts : List ℤ} {last : Key → ℕ → ℤ} (h : Families Y parts last) where
+  -- a filing or an amendment: whatever stood there
+  pub families-put :
+      (m s f y : ℕ) (z : ℤ) → m < makers → s < sets → f < families → y ≡ Y
+      → Families Y (store parts (cell m s * families + f) z) (put (key m s y) f z last)
+  families-put m s f y z hm hs hf e =
       record {
         size = simp length-set (h .size);
-        current = λ n t hn ht.
-            rw (h .current n t hn ht, same-cell m s n t y Y hs ht e)
-            (sym (cellSum-put parts (cell m s) (cell n t) f z hf (omega (arith, h .size)) zero));
-        later = λ k b. rw (other-year (key m s y) k (omega arith), h .later k b, onlyℤ-false);
+        current = λ n t g hn ht hg.
+            rw (h .current n t g hn ht hg, same-cell m s n t y Y hs ht e)
+            (sym (part-stored parts (cell m s) f (cell n t) g z hf hg (omega (arith, h .size))));
+        later = λ k g b. rw (other-year (key m s y) k (omega arith)) (h .later k g b);
       }
 
   -- the next year begins with no parts
-  pub sums-clear : Sums (Y + 1) (replicate allParts (pos 0)) sum
-  sums-clear =
+  pub families-clear : Families (Y + 1) (replicate allParts (pos 0)) last
+  families-clear =
       record {
         size = length-replicate allParts (pos 0);
-        current = λ m s hm hs. h .later (key m s (Y + 1)) (omega arith) ∙ sym (cellSum-cleared (cell m s) (omega arith));
-        later = λ k b. h .later k (omega arith);
+        current = λ m s f hm hs hf. h .later (key m s (Y + 1)) f (omega arith) ∙ sym (no-part (cell m s) f (omega arith) hf);
+        later = λ k f b. h .later k f (omega arith);
       }
 
   -- the sum of any key of the open year
-  pub sums-at : (k : Key) → In k → k .year ≡ Y → sum k ≡ cellSum parts (cell (k .maker) (k .set))
-  sums-at k i e =
+  pub families-sum : (k : Key) → In k → k .year ≡ Y → sumBelowℤ families (last k) ≡ cellSum parts (cell (k .maker) (k .set))
+  unfolding cellSum
+  families-sum k i e =
       let q : k ≡ key (k .maker) (k .set) Y = λ j. record { maker = k .maker; set = k .set; year = e j } in
-      ap sum q ∙ h .current (k .maker) (k .set) (i .maker) (i .set)
+      sumℤ-same (partAt parts (cell (k .maker) (k .set))) (last k) families (λ f hf.
+      ap (λ (j : Key). last j f) q ∙ h .current (k .maker) (k .set) f (i .maker) (i .set) hf)
 
 -- ---- a book and accounts that agree. Soundness is no part of it: an accepted call shows it by the head.
 pub record Agree (b : Book) (a : Accounts) : Type 0 where
-  pub sums : Sums (b .«open_year») (b .parts) (a .sum)
+  pub families : Families (b .«open_year») (b .parts) (a .last)
   pub lots :
       Tied (b .«open_year») (b .lots) (a .earned) (a .mg bought)
       (λ k. a .mg sold k + a .mg applied k + a .mg retired k)

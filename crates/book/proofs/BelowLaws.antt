@@ -2,13 +2,13 @@
 -- what the theorems need of a sum of which one term changed.
 use Prim.Native.Nat.{ℕ, zero, suc, _+_, _*_, _-_, _<_, _≤_}
 use mathlib.Core.Bool.{Bool, true, false, _&&_, _||_, and-false, false≢true}
-use mathlib.Core.Logic.{⊎-elim, _⊎_, inl, inr, _≢_}
+use mathlib.Core.Logic.{⊎-elim, _⊎_, inl, inr}
 use mathlib.Core.Path.{_≡_, refl, sym, _∙_, ap, ap₂}
 use native.Mathlib.Omega.{arith}
 use native.Mathlib.Numerals.{add-one}
 use native.Mathlib.Nat.{le-refl, suc-mul}
 use native.Mathlib.Decide.{ℕ-discrete}
-use lib.IntN.{ℤ, pos, natAbs, _+ℤ_, +ℤ-assoc, +ℤ-comm}
+use lib.IntN.{ℤ, pos, natAbs, _+ℤ_}
 use Rattle.figuring.proofs.SignedLaws.{abs-add}
 use Rattle.figuring.proofs.BoolLaws.{and-intro}
 use Rattle.book.specs.Below.{allBelow, anyBelow, sumBelow, sumBelowℤ, countBelow, oneIf}
@@ -126,29 +126,3 @@ sumℤ-zero f (suc n) e =
     let h : sumBelowℤ n f ≡ pos 0 = sumℤ-zero f n (λ i l. e i (omega arith)) in
     let t : f n ≡ pos 0 = e n (omega arith) in
     rw (h, t)
-
--- what a sum comes to after one of its terms changed
-pub sumℤ-change :
-    (f g : ℕ → ℤ) (n j : ℕ) → j < n → ((i : ℕ) → i < n → i ≢ j → g i ≡ f i)
-    → sumBelowℤ n g +ℤ f j ≡ sumBelowℤ n f +ℤ g j
-unfolding sumBelowℤ
-sumℤ-change f g zero j h e = absurd (omega arith)
-sumℤ-change f g (suc n) j h e = go (ℕ-discrete n j) (λ l. sumℤ-change f g n j l (λ i m. e i (omega arith)))
-  where
-    go :
-        Dec (n ≡ j) → (j < n → sumBelowℤ n g +ℤ f j ≡ sumBelowℤ n f +ℤ g j)
-        → (sumBelowℤ n g +ℤ g n) +ℤ f j ≡ (sumBelowℤ n f +ℤ f n) +ℤ g j
-    go (yes p) ih =
-        let s : sumBelowℤ n g ≡ sumBelowℤ n f = sumℤ-same f g n (λ i l. e i (omega arith) (omega arith)) in
-        rw (s, p) (simp (+ℤ-assoc, +ℤ-comm (g j) (f j)))
-    go (no p) ih =
-        let t : g n ≡ f n = e n (omega arith) p in
-        let w : sumBelowℤ n g +ℤ f j ≡ sumBelowℤ n f +ℤ g j = ih (omega arith) in
-        rw t
-        (+ℤ-assoc (sumBelowℤ n g) (f n) (f j)
-        ∙ ap (λ (x : ℤ). sumBelowℤ n g +ℤ x) (+ℤ-comm (f n) (f j))
-        ∙ sym (+ℤ-assoc (sumBelowℤ n g) (f j) (f n))
-        ∙ ap (λ (x : ℤ). x +ℤ f n) w
-        ∙ +ℤ-assoc (sumBelowℤ n f) (g j) (f n)
-        ∙ ap (λ (x : ℤ). sumBelowℤ n f +ℤ x) (+ℤ-comm (g j) (f n))
-        ∙ sym (+ℤ-assoc (sumBelowℤ n f) (f n) (g j)))

@@ -1,11 +1,14 @@
 -- What is said call by call, each once: what an accepted call keeps, and that no row of its own gives refusal 2.
-use mathlib.Core.Bool.{Bool, true, not, _&&_}
+use mathlib.Core.Bool.{Bool, true, false, not, _&&_}
 use mathlib.Core.List.{List, [], _∷_}
 use mathlib.Core.Path.{_≡_, refl}
 use lib.Dec.{eqb}
+use lib.ListN.{getD}
+use Rattle.book.specs.Ledger.{marked}
+use Rattle.book.specs.Postings.{filingCell}
 use Rattle.book.specs.Soundness.{sound}
 use Rattle.book.specs.Refusals.{Row, numberOf, firstRefusal}
-use Rattle.book.specs.Rules.{headRows, ownRows, table, fileRows, closeRows, tradeRows, applyRows, retireRows, CheckingOrder}
+use Rattle.book.specs.Rules.{headRows, ownRows, table, filedRow, fileRows, closeRows, tradeRows, applyRows, retireRows, CheckingOrder}
 use Rattle.book.specs.declared.ledger.Book.{Book}
 use Rattle.book.specs.declared.kinds.Call.{Call}
 use Rattle.book.specs.declared.answers.Verdict.the-variants.{Accepted}
@@ -33,7 +36,11 @@ noTwo (x ∷ xs) = not (eqb (numberOf (x .why)) 2) && noTwo xs
 -- 2 is the head's alone
 pub own-not-two : (b : Book) (c : Call) → noTwo (ownRows b c) ≡ true
 unfolding ownRows fileRows closeRows tradeRows applyRows retireRows
-own-not-two b (Call.File f) = refl
+own-not-two b (Call.File f) = go (f .amends)
+  where
+    go : (amends : Bool) → noTwo (filedRow amends (marked (getD (b .marks) (filingCell f) 0) (f .family)) ∷ []) ≡ true
+    go true = refl
+    go false = refl
 own-not-two b (Call.Close y) = refl
 own-not-two b (Call.Trade t) = refl
 own-not-two b (Call.Apply p) = refl
@@ -42,4 +49,4 @@ own-not-two b (Call.Retire p) = refl
 pub checking-order : CheckingOrder
 unfolding table headRows ownRows fileRows closeRows tradeRows applyRows retireRows
 checking-order =
-    record { file = λ b f. refl; close = λ b y. refl; trade = λ b t. refl; apply = λ b p. refl; retire = λ b p. refl }
+    record { file = λ b f e. rw e; amend = λ b f e. rw e; close = λ b y. refl; trade = λ b t. refl; apply = λ b p. refl; retire = λ b p. refl }

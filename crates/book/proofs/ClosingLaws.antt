@@ -16,18 +16,18 @@ use Rattle.book.specs.Sizes.{makers, sets, cells, families, years, place
 use Rattle.book.specs.Ledger.{Key, key, In, figureAt, cell, cellSum, partAt}
 use Rattle.book.specs.Postings.{closeDone, netted, earnedBy, shortBy}
 use Rattle.book.specs.Rules.{done}
-use Rattle.book.specs.Accounts.{Accounts, move}
+use Rattle.book.specs.Accounts.{Accounts, sumAt, earnedAt, shortfallAt, move}
 use Rattle.book.specs.Demand3.{isAccepted}
 use Rattle.book.specs.Companions.{Sized}
 use Rattle.book.specs.declared.ledger.Book.{Book}
 use Rattle.book.specs.declared.kinds.Call.{Call}
 use Rattle.book.proofs.BelowLaws.{sumℤ-small}
 use Rattle.book.proofs.CloseFacts.{Closable}
-use Rattle.book.proofs.LedgerLaws.{netted-length, netted-in, netted-out}
+use Rattle.book.proofs.LedgerLaws.{no-part, netted-length, netted-in, netted-out}
 use Rattle.book.proofs.SoundnessLaws.{Sound, sound-is}
 use Rattle.book.proofs.TotalLaws.{sum-small, sum-falls, totalOf}
-use Rattle.book.proofs.FreshSound.{no-part, no-part-bounded}
-use Rattle.book.proofs.Balances.{Agree, tied-net, sums-clear, sums-at}
+use Rattle.book.proofs.FreshSound.{no-part-bounded}
+use Rattle.book.proofs.Balances.{Agree, tied-net, families-clear, families-sum}
 use Rattle.book.proofs.Lawful.{Lawful}
 
 sum-bound : (b : Book) (c : ℕ) → Sound b → c < cells → natAbs (cellSum (b .parts) c) ≤ families * partMost
@@ -112,20 +112,20 @@ close-agrees b a y h g =
     let s = sound-is b (g .sound) in
     rw (g .year)
     (record {
-      sums = sums-clear (h .sums);
+      families = families-clear (h .families);
       lots =
-          tied-net (h .lots) (earnedBy b) (λ k. earnedOf (netOf engineUnit (a .sum k))) (g .from) (g .upto)
+          tied-net (h .lots) (earnedBy b) (earnedAt a) (g .from) (g .upto)
           (λ k i e. ap earnedOf (net-same k i e)) (λ k i e. s .ahead k i (omega arith) .0);
       shortages =
-          tied-net (h .shortages) (shortBy b) (λ k. shortfallOf (netOf engineUnit (a .sum k))) (g .from) (g .upto)
+          tied-net (h .shortages) (shortBy b) (shortfallAt a) (g .from) (g .upto)
           (λ k i e. ap shortfallOf (net-same k i e)) (λ k i e. s .ahead k i (omega arith) .1);
     })
   where
     -- what the accounts' sum nets to is what the cell nets to
     net-same :
         (k : Key) → In k → k .year ≡ b .«open_year»
-        → netOf engineUnit (a .sum k) ≡ netOf engineUnit (cellSum (b .parts) (cell (k .maker) (k .set)))
-    net-same k i e = ap (netOf engineUnit) (sums-at (h .sums) k i e)
+        → netOf engineUnit (sumAt a k) ≡ netOf engineUnit (cellSum (b .parts) (cell (k .maker) (k .set)))
+    net-same k i e = ap (netOf engineUnit) (families-sum (h .families) k i e)
 
 pub close-lawful : (b : Book) (y : ℕ) → Closable b y → Lawful b (Call.Close y)
 unfolding done closeDone isAccepted

@@ -1,20 +1,22 @@
 -- Each account by itself, by computing.
 use mathlib.Core.Path.{refl}
-use Rattle.figuring.specs.Standards.{standardFor, gramsOf, tractor, printedFor}
+use Rattle.figuring.specs.Standards.{standardFor, gramsOf, tractor, vocational, printedFor}
 use Rattle.figuring.specs.Editions.{alternativeYears, inTable, alternativeFor, standardUnder}
 use Rattle.figuring.specs.Parts.{partOf}
 use Rattle.figuring.specs.Netting.{netOf, nearest, earnedOf, shortfallOf}
+use Rattle.book.specs.Below.{sumBelowℤ}
 use Rattle.book.specs.Postings.{partFor}
-use Rattle.book.specs.Accounts.{sameKey, only, onlyℤ, feed, feedAll, accountsOf}
+use Rattle.book.specs.Accounts.{sameKey, only, feed, feedAll, accountsOf}
 use Rattle.book.specs.EachAccount.{EachAccount}
 
 pub each-account : EachAccount
-unfolding accountsOf feedAll feed sameKey only onlyℤ partFor standardUnder alternativeFor alternativeYears inTable standardFor gramsOf tractor printedFor partOf netOf nearest earnedOf shortfallOf
+unfolding accountsOf feedAll feed sameKey only sumBelowℤ partFor standardUnder alternativeFor alternativeYears inTable standardFor gramsOf tractor vocational printedFor partOf netOf nearest earnedOf shortfallOf
 each-account =
     record {
       seller = refl;
       buyer = refl;
       shortage = refl;
       named = (refl, refl, refl, refl);
+      lastFigures = (refl, refl, refl, refl, refl);
       otherSet = refl;
     }

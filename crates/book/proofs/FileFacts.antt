@@ -1,5 +1,5 @@
--- What an accepted filing says.
-use mathlib.Core.Bool.{true, false, false≢true}
+-- What an accepted filing or amendment says.
+use mathlib.Core.Bool.{Bool, true, false, false≢true}
 use mathlib.Core.Path.{_≡_, ap}
 use Prim.Native.Nat.{ℕ, _≤_, _<_}
 use native.Mathlib.Omega.{arith}
@@ -18,7 +18,7 @@ use Rattle.book.specs.Sizes.{makers, sets, families}
 use Rattle.book.specs.Ledger.{marked}
 use Rattle.book.specs.Soundness.{sound}
 use Rattle.book.specs.Refusals.{firstRefusal}
-use Rattle.book.specs.Rules.{fileRows, ownRows, posted}
+use Rattle.book.specs.Rules.{filedRow, fileRows, ownRows, posted}
 use Rattle.book.specs.Postings.{filingCell}
 use Rattle.book.specs.Demand3.{isAccepted}
 use Rattle.book.specs.declared.ledger.Book.{Book}
@@ -38,7 +38,12 @@ pub record Fileable (b : Book) (f : Filing) : Type 0 where
   pub edition : noEdition (f .edition) (f .set) (f .year) ≡ false
   pub family : f .family < families
   pub limits : withinLimits (f .fcl) (f .cf) (f .volume) (f .life) ≡ true
-  pub unmarked : marked (getD (b .marks) (filingCell f) 0) (f .family) ≡ false
+  -- 9 and 18: a filing is of a family that is not filed, an amendment of one that is
+  pub mark : marked (getD (b .marks) (filingCell f) 0) (f .family) ≡ f .amends
+
+as-amends : (amends isFiled : Bool) → filedRow amends isFiled .test ≡ false → isFiled ≡ amends
+as-amends true isFiled e = not-false isFiled e
+as-amends false isFiled e = e
 
 pub fileable :
     (b : Book) (f : Filing) → sound b ≡ true → firstRefusal (fileRows (b .«open_year») (b .marks) f) ≡ Accepted
@@ -56,7 +61,7 @@ fileable b f s e =
       edition = search;
       family = leb-false families (f .family) (search);
       limits = not-false (withinLimits (f .fcl) (f .cf) (f .volume) (f .life)) (search);
-      unmarked = search;
+      mark = as-amends (f .amends) _ (search);
     }
 
 pub accepted-filing : (b : Book) (f : Filing) → isAccepted (posted b (Call.File f) .answer) ≡ true → Fileable b f

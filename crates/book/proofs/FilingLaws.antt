@@ -1,5 +1,5 @@
--- What an accepted filing keeps: a sound book sound, since its part is within the bound and its family marked; and the accounts'
--- sum of its cell. Nothing else changes.
+-- What an accepted filing or amendment keeps: a sound book sound, since its part is within the bound and its family marked; and
+-- the accounts' part of its family. Nothing else changes.
 use Prim.Native.Nat.{ℕ, _+_, _*_, _≤_, _<_}
 use mathlib.Core.Bool.{true, false, true≢false}
 use mathlib.Core.List.{List}
@@ -27,7 +27,7 @@ use Rattle.book.specs.declared.kinds.Filing.{Filing}
 use Rattle.book.proofs.FileFacts.{Fileable}
 use Rattle.book.proofs.MarkLaws.{marked-same, marked-other}
 use Rattle.book.proofs.SoundnessLaws.{Sound, sound-is}
-use Rattle.book.proofs.Balances.{Agree, sums-put}
+use Rattle.book.proofs.Balances.{Agree, families-put}
 use Rattle.book.proofs.Lawful.{Lawful}
 
 -- a place is the one that was written, or it is not
@@ -124,9 +124,9 @@ file-agrees :
 unfolding stored
 file-agrees b a f h g =
     record {
-      sums =
-          sums-put (h .sums) (f .maker) (f .set) (f .family) (f .year) (partFor f) (g .maker) (g .set) (g .family)
-          (g .year) (sound-is b (g .sound) .unmarked _ _ (omega arith) (g .family) (g .unmarked));
+      families =
+          families-put (h .families) (f .maker) (f .set) (f .family) (f .year) (partFor f) (g .maker) (g .set) (g .family)
+          (g .year);
       lots = h .lots;
       shortages = h .shortages;
     }

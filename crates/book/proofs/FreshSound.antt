@@ -1,9 +1,9 @@
 -- A book with nothing in it is sound, whatever its open year: by the laws, since computing it takes long.
-use Prim.Native.Nat.{ℕ, _+_, _*_, _≤_, _<_}
+use Prim.Native.Nat.{ℕ, _+_, _≤_, _<_}
 use mathlib.Core.Bool.{true}
 use mathlib.Core.Path.{_≡_, ap}
 use native.Mathlib.Omega.{arith}
-use lib.ListN.{replicate, length-replicate, getD-replicate}
+use lib.ListN.{replicate, length-replicate}
 use lib.IntN.{pos, natAbs}
 use Rattle.figuring.specs.Years.{firstYear}
 use Rattle.figuring.specs.Parts.{partMost}
@@ -14,12 +14,8 @@ use Rattle.book.specs.Postings.{emptyIn, freshBook}
 use Rattle.book.specs.Companions.{Sized}
 use Rattle.book.specs.Marked.{lastOpen}
 use Rattle.book.proofs.BelowLaws.{sum-zero}
-use Rattle.book.proofs.LedgerLaws.{at-zeros}
+use Rattle.book.proofs.LedgerLaws.{at-zeros, no-part}
 use Rattle.book.proofs.SoundnessLaws.{is-sound}
-
--- no part filed
-pub no-part : (c f : ℕ) → c < cells → f < families → partAt (replicate allParts (pos 0)) c f ≡ pos 0
-no-part c f hc hf = getD-replicate allParts (c * families + f) (pos 0) (pos 0) (omega arith)
 
 pub no-part-bounded : (c f : ℕ) → c < cells → f < families → natAbs (partAt (replicate allParts (pos 0)) c f) ≤ partMost
 no-part-bounded c f hc hf = omega (arith, ap natAbs (no-part c f hc hf))

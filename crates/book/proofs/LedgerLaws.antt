@@ -1,6 +1,6 @@
--- Laws of keys and places: what stands at a key after a lot or shortage was lowered or raised, after a close, and what a
--- cell's parts add up to after one was stored.
-use mathlib.Core.Bool.{Bool, true, false}
+-- Laws of keys and places: what stands at a key after a lot or shortage was lowered or raised, after a close, and what
+-- the parts are after one was stored.
+use mathlib.Core.Bool.{Bool, true, false, cond, _&&_}
 use mathlib.Core.List.{List}
 use mathlib.Core.Path.{_≡_, refl, sym, _∙_, ap}
 use mathlib.Core.Logic.{_≢_}
@@ -11,15 +11,13 @@ use borrow.Author.Tests.{eqb-true, eq-eqb, ne-eqb}
 use lib.Dec.{eqb}
 use lib.ListN.{getD, set, replicate, length, length-set, getD-replicate}
 use lib.Seq.{getD-set-same, getD-set-other}
-use lib.IntN.{ℤ, pos, _+ℤ_, +ℤ-idr}
+use lib.IntN.{ℤ, pos}
 use Rattle.figuring.specs.Years.{firstYear, lastYear}
 use Rattle.figuring.proofs.BoolLaws.{both}
 use Rattle.book.specs.Sizes.{sets, cells, families, years, places, allParts}
-use Rattle.book.specs.Below.{sumBelowℤ}
-use Rattle.book.specs.Ledger.{Key, key, In, place, figureAt, lower, raise, cell, cellSum, partAt}
+use Rattle.book.specs.Ledger.{Key, key, In, place, figureAt, lower, raise, cell, partAt}
 use Rattle.book.specs.Postings.{netted}
-use Rattle.book.specs.Accounts.{sameKey, only, onlyℤ}
-use Rattle.book.proofs.BelowLaws.{sumℤ-same, sumℤ-zero, sumℤ-change}
+use Rattle.book.specs.Accounts.{sameKey, only}
 
 -- ── keys
 pub apart : (a b n m : ℕ) → a < years → b < years → n * years + a ≡ m * years + b → (n ≡ m) × (a ≡ b)
@@ -35,7 +33,7 @@ same-false k j hk hj e = λ i.
     let t : sameKey k j ≡ true = simp (eq-eqb _ _ m, eq-eqb _ _ s, eq-eqb _ _ y) in
     let z : _≡_ {A = ℕ} 0 1 = cc in omega arith
 
-same-true : (k j : Key) → sameKey k j ≡ true → k ≡ j
+pub same-true : (k j : Key) → sameKey k j ≡ true → k ≡ j
 unfolding sameKey
 same-true k j e =
     let p = both _ _ e in
@@ -144,37 +142,17 @@ pub other-year : (k j : Key) → k .year ≢ j .year → sameKey k j ≡ false
 unfolding sameKey
 other-year k j h = bool-false _ (λ e. h (ap (λ (k : Key). k .year) (same-true k j e)))
 
--- ── the sum of a cell after one of its parts was put in, or another's
-pub cellSum-set : (l : List ℤ) (c d f : ℕ) (v : ℤ) → f < families → c * families + f < length l → cellSum (set l (c * families + f) v) d +ℤ onlyℤ (eqb c d) (partAt l c f) ≡ cellSum l d +ℤ onlyℤ (eqb c d) v
-unfolding cellSum onlyℤ
-cellSum-set l c d f v hf h = go (ℕ-discrete c d)
+-- ── the parts after one was stored, whatever stood there; and where there are none
+pub part-stored : (l : List ℤ) (c f d g : ℕ) (z : ℤ) → f < families → g < families → c * families + f < length l → partAt (set l (c * families + f) z) d g ≡ cond (eqb c d && eqb f g) z (partAt l d g)
+part-stored l c f d g z hf hg h = go (ℕ-discrete c d) (ℕ-discrete f g)
   where
-    go : Dec (c ≡ d) → cellSum (set l (c * families + f) v) d +ℤ onlyℤ (eqb c d) (partAt l c f) ≡ cellSum l d +ℤ onlyℤ (eqb c d) v
-    go (yes p) =
-        rw (eq-eqb _ _ p, ← p)
-        (sumℤ-change (partAt l c) (partAt (set l (c * families + f) v) c) families f hf
-        (λ i hi n. getD-set-other l (c * families + f) (c * families + i) v (pos 0) (omega arith))
-        ∙ ap (λ (x : ℤ). sumBelowℤ families (partAt l c) +ℤ x) (getD-set-same l (c * families + f) v (pos 0) h))
-    go (no p) =
-        rw (ne-eqb _ _ p) (ap (λ (x : ℤ). x +ℤ pos 0) (sumℤ-same _ _ families (λ i hi. getD-set-other l (c * families + f) (d * families + i) v (pos 0) (omega arith))))
+    go : Dec (c ≡ d) → Dec (f ≡ g) → partAt (set l (c * families + f) z) d g ≡ cond (eqb c d && eqb f g) z (partAt l d g)
+    go (yes p) (yes q) = rw (eq-eqb _ _ p, eq-eqb _ _ q, ← p, ← q) (getD-set-same l (c * families + f) z (pos 0) h)
+    go (yes p) (no q) = rw (eq-eqb _ _ p, ne-eqb _ _ q) (getD-set-other l (c * families + f) (d * families + g) z (pos 0) (omega arith))
+    go (no p) q = rw (ne-eqb _ _ p) (getD-set-other l (c * families + f) (d * families + g) z (pos 0) (omega arith))
 
-pub onlyℤ-zero : (t : Bool) → onlyℤ t (pos 0) ≡ pos 0
-unfolding onlyℤ
-onlyℤ-zero true = refl
-onlyℤ-zero false = refl
-
-pub onlyℤ-false : (v : ℤ) → onlyℤ false v ≡ pos 0
-unfolding onlyℤ
-onlyℤ-false v = refl
-
--- put in where there was zero: the sum takes it
-pub cellSum-put : (l : List ℤ) (c d f : ℕ) (v : ℤ) → f < families → c * families + f < length l → partAt l c f ≡ pos 0 → cellSum (set l (c * families + f) v) d ≡ cellSum l d +ℤ onlyℤ (eqb c d) v
-cellSum-put l c d f v hf h z =
-    sym (+ℤ-idr _) ∙ ap (λ (x : ℤ). cellSum (set l (c * families + f) v) d +ℤ x) (sym (ap (onlyℤ (eqb c d)) z ∙ onlyℤ-zero (eqb c d))) ∙ cellSum-set l c d f v hf h
-
-pub cellSum-cleared : (c : ℕ) → c < cells → cellSum (replicate allParts (pos 0)) c ≡ pos 0
-unfolding cellSum
-cellSum-cleared c h = sumℤ-zero _ families (λ i hi. getD-replicate allParts (c * families + i) (pos 0) (pos 0) (omega arith))
+pub no-part : (c f : ℕ) → c < cells → f < families → partAt (replicate allParts (pos 0)) c f ≡ pos 0
+no-part c f hc hf = getD-replicate allParts (c * families + f) (pos 0) (pos 0) (omega arith)
 
 -- ── a close at a key: of the year closed, and of another
 pub netted-in : (y : ℕ) (v : ℕ → ℕ) (l : List ℕ) (k : Key) → length l ≡ places → In k → k .year ≡ y → figureAt (netted (y - firstYear) v cells l) k ≡ v (cell (k .maker) (k .set))

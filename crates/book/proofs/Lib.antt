@@ -27,6 +27,8 @@ pub mod AmongLaws
 pub mod FiledAlone
 pub mod OneBook
 pub mod FilingOrder
+pub mod Amendments
+pub mod LastFigures
 pub mod Restated
 pub mod InPlaceWalk
 pub mod LentWalk

@@ -4,7 +4,7 @@ use mathlib.Core.Bool.{true, false, true≢false}
 use mathlib.Core.Path.{_≡_, refl, sym, _∙_, ap, ap₂}
 use native.Mathlib.Omega.{arith}
 use native.Mathlib.Nat.{one-mul, add-zero, pow-suc, div-eq-of-lt, mod-lt}
-use native.Mathlib.Decide.{decLt}
+use native.Mathlib.Decide.{decLt, ℕ-discrete}
 use borrow.Author.Tests.{eqb-false}
 use lib.Dec.{eqb}
 use lib.Bits.{bitOr, or-shr, or-mod, or-zero-r, or-block}
@@ -101,3 +101,11 @@ same-below (suc n) x y h k e =
 
 pub same-mark : (x y : ℕ) → ((i : ℕ) → marked x i ≡ marked y i) → x ≡ y
 same-mark x y e = same-below (x + y) x y (omega arith) (omega arith) e
+
+-- so a mark in which the family's bit is set already stays as it is
+pub mark-kept : (mark f : ℕ) → marked mark f ≡ true → withMark mark f ≡ mark
+mark-kept mark f h = same-mark (withMark mark f) mark (λ i. go i (ℕ-discrete i f))
+  where
+    go : (i : ℕ) → Dec (i ≡ f) → marked (withMark mark f) i ≡ marked mark i
+    go i (yes e) = rw e (marked-same mark f ∙ sym h)
+    go i (no n) = marked-other mark f i n

@@ -91,7 +91,7 @@ unfolding tradeDone only
 trade-agrees b a t h g =
     let paid = tied-out (h .lots) (sellerLot t) (t .mg) (g .seller .lot) (g .seller .enough) in
     record {
-      sums = h .sums;
+      families = h .families;
       lots = tied-as (tied-in paid (buyerLot t) (t .mg) (g .buyer)) _ _ (λ k. omega arith) (λ k. omega arith);
       shortages = tied-as (h .shortages) _ _ (λ k. omega arith) (λ k. omega arith);
     }
@@ -133,7 +133,7 @@ apply-agrees b a p h g =
     let paid = tied-out (h .lots) (appliedLot p) (p .mg) (g .payer .lot) (g .payer .enough) in
     let less = tied-out (h .shortages) (coveredShortage p) (p .mg) (g .covered) (g .enough) in
     record {
-      sums = h .sums;
+      families = h .families;
       lots = tied-as paid _ _ (λ k. omega arith) (λ k. omega arith);
       shortages = tied-as less _ _ (λ k. omega arith) (λ k. omega arith);
     }
@@ -173,7 +173,7 @@ unfolding retirementDone only
 retire-agrees b a p h g =
     let paid = tied-out (h .lots) (retiredLot p) (p .mg) (g .payer .lot) (g .payer .enough) in
     record {
-      sums = h .sums;
+      families = h .families;
       lots = tied-as paid _ _ (λ k. omega arith) (λ k. omega arith);
       shortages = tied-as (h .shortages) _ _ (λ k. omega arith) (λ k. omega arith);
     }

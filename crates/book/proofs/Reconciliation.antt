@@ -21,7 +21,7 @@ use Rattle.book.specs.declared.kinds.Call.{Call}
 use Rattle.book.specs.declared.kinds.Application.{Application}
 use Rattle.book.proofs.TableLaws.{by-verdict}
 use Rattle.book.proofs.MoveFacts.{Applicable, applicable}
-use Rattle.book.proofs.LedgerLaws.{at-zeros, cellSum-cleared}
+use Rattle.book.proofs.LedgerLaws.{at-zeros, no-part}
 use Rattle.book.proofs.Balances.{Tied, Agree, agree-reconciled}
 use Rattle.book.proofs.CallLaws.{lawful}
 
@@ -29,11 +29,11 @@ pub begins : Agree freshBook zeroAccounts
 unfolding freshBook
 begins =
     record {
-      sums =
+      families =
           record {
             size = length-replicate allParts (pos 0);
-            current = λ m s hm hs. sym (cellSum-cleared (cell m s) (omega arith));
-            later = λ k h. refl;
+            current = λ m s f hm hs hf. sym (no-part (cell m s) f (omega arith) hf);
+            later = λ k f h. refl;
           };
       lots = nothing;
       shortages = nothing;

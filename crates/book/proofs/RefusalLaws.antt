@@ -17,7 +17,7 @@ use Rattle.book.specs.declared.answers.Refusal.the-variants.{NotAForm, U
 use Rattle.book.specs.declared.answers.Refusal.the-variants.{YearNotOpen, NoStandard, UnknownFamily, OutOfLimits}
 use Rattle.book.specs.declared.answers.Refusal.the-variants.{AlreadyFiled, VintageNotLive, ZeroAmount, SameMaker}
 use Rattle.book.specs.declared.answers.Refusal.the-variants.{HasShortage, NoOpenShortage, AboveLot, AboveShortage}
-use Rattle.book.specs.declared.answers.Refusal.the-variants.{NoEdition}
+use Rattle.book.specs.declared.answers.Refusal.the-variants.{NoEdition, NotFiled}
 use Rattle.book.proofs.TableLaws.{by-verdict}
 use Rattle.book.proofs.CallLaws.{lawful}
 
@@ -39,6 +39,7 @@ number-above-0 NoOpenShortage = omega arith
 number-above-0 AboveLot = omega arith
 number-above-0 AboveShortage = omega arith
 number-above-0 NoEdition = omega arith
+number-above-0 NotFiled = omega arith
 
 -- ---- what an answer says of itself
 pub accepted-number : (a : Answer) → isAccepted a ≡ true → refusalIn a ≡ 0

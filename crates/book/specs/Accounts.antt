@@ -1,12 +1,14 @@
 -- Document 01, "Accounts": fed, in list order, the calls' arguments other than the book and, of each answer, only
 -- whether it was a refusal. The types show it: an entry is a call and a Bool, and nothing here takes a book.
 use Prim.Native.Nat.{ℕ, _+_}
-use mathlib.Core.Bool.{Bool, true, false, _&&_}
+use mathlib.Core.Bool.{Bool, true, false, cond, _&&_}
 use mathlib.Core.List.{List, [], _∷_}
 use lib.Dec.{eqb}
-use lib.IntN.{ℤ, pos, _+ℤ_}
+use lib.IntN.{ℤ, pos}
 use Rattle.figuring.specs.Units.{engineUnit}
 use Rattle.figuring.specs.Netting.{netOf, earnedOf, shortfallOf}
+use Rattle.book.specs.Sizes.{families}
+use Rattle.book.specs.Below.{sumBelowℤ}
 use Rattle.book.specs.Ledger.{Key, key}
 use Rattle.book.specs.Postings.{partFor, sellerLot, buyerLot, appliedLot, coveredShortage, retiredLot}
 use Rattle.book.specs.declared.kinds.Call.{Call}
@@ -34,15 +36,15 @@ columnNumber covered = 4
 
 -- "For each maker, set and year 2014 to 2037 there are a sum in part units and, in Mg, earned, shortfall, bought,
 -- sold, applied, retired and covered. All are exact whole numbers without bound and start at zero." Kept here for any
--- key: Demand3 speaks of those of the book.
+-- key: Demand3 speaks of those of the book. Since card 6 the sum is that of a part for each family number.
 pub record Accounts : Type 0 where
-  pub sum : Key → ℤ
+  pub last : Key → ℕ → ℤ
   pub earned : Key → ℕ
   pub shortfall : Key → ℕ
   pub mg : Column → Key → ℕ
 
 abbrev pub zeroAccounts : Accounts
-zeroAccounts = record { sum = λ k. pos 0; earned = λ k. 0; shortfall = λ k. 0; mg = λ c k. 0 }
+zeroAccounts = record { last = λ k f. pos 0; earned = λ k. 0; shortfall = λ k. 0; mg = λ c k. 0 }
 
 unfoldable pub sameKey : Key → Key → Bool
 sameKey k j = eqb (k .maker) (j .maker) && (eqb (k .set) (j .set) && eqb (k .year) (j .year))
@@ -52,35 +54,39 @@ unfoldable pub only : Bool → ℕ → ℕ
 only true n = n
 only false n = 0
 
-unfoldable pub onlyℤ : Bool → ℤ → ℤ
-onlyℤ true n = n
-onlyℤ false n = pos 0
-
 -- n more in column c at k, and the rest as before
 abbrev pub add : Column → Key → ℕ → (Column → Key → ℕ) → Column → Key → ℕ
 add c k n g d j = g d j + only (eqb (columnNumber c) (columnNumber d) && sameKey k j) n
 
--- the same of the sum in part units
-abbrev pub plusℤ : Key → ℤ → (Key → ℤ) → Key → ℤ
-plusℤ k n f j = f j +ℤ onlyℤ (sameKey k j) n
+-- z for the family f at k, and the rest as before
+abbrev pub put : Key → ℕ → ℤ → (Key → ℕ → ℤ) → Key → ℕ → ℤ
+put k f z g j h = cond (sameKey k j && eqb f h) z (g j h)
 
-abbrev pub pick : Bool → ℕ → ℕ → ℕ
-pick true a b = a
-pick false a b = b
+-- the sum in part units
+abbrev pub sumAt : Accounts → Key → ℤ
+sumAt a k = sumBelowℤ families (a .last k)
+
+-- what it comes to, "rounded as a close rounds"
+abbrev pub earnedAt : Accounts → Key → ℕ
+earnedAt a k = earnedOf (netOf engineUnit (sumAt a k))
+
+abbrev pub shortfallAt : Accounts → Key → ℕ
+shortfallAt a k = shortfallOf (netOf engineUnit (sumAt a k))
 
 -- in year y what v says, and the rest as before
 abbrev pub inYear : ℕ → (Key → ℕ) → (Key → ℕ) → Key → ℕ
-inYear y v f j = pick (eqb (j .year) y) (v j) (f j)
+inYear y v f j = cond (eqb (j .year) y) (v j) (f j)
 
 -- the columns as g says, and the rest as before
 abbrev pub withMg : Accounts → (Column → Key → ℕ) → Accounts
-withMg a g = record { sum = a .sum; earned = a .earned; shortfall = a .shortfall; mg = g }
+withMg a g = record { last = a .last; earned = a .earned; shortfall = a .shortfall; mg = g }
 
 abbrev pub move : Accounts → Call → Accounts
--- "its part, figured from its own arguments, is added to the sum of its maker, set and year"
+-- "its part, figured from its own arguments, is added to the sum of its maker, set and year"; of a filing and its
+-- amendments the last: "a family counts with its last accepted figures of that year"
 move a (Call.File f) =
     record {
-      sum = plusℤ (key (f .maker) (f .set) (f .year)) (partFor f) (a .sum);
+      last = put (key (f .maker) (f .set) (f .year)) (f .family) (partFor f) (a .last);
       earned = a .earned;
       shortfall = a .shortfall;
       mg = a .mg;
@@ -89,9 +95,9 @@ move a (Call.File f) =
 -- without its sign, shortfall"
 move a (Call.Close y) =
     record {
-      sum = a .sum;
-      earned = inYear y (λ k. earnedOf (netOf engineUnit (a .sum k))) (a .earned);
-      shortfall = inYear y (λ k. shortfallOf (netOf engineUnit (a .sum k))) (a .shortfall);
+      last = a .last;
+      earned = inYear y (earnedAt a) (a .earned);
+      shortfall = inYear y (shortfallAt a) (a .shortfall);
       mg = a .mg;
     }
 -- "its Mg are added to sold of the from maker and to bought of the to maker, in its set and vintage"

@@ -1,7 +1,7 @@
 -- Each account by itself, on a history that a reader can add up by hand. Demand 3 holds the accounts together, as a
 -- sum: it would hold as well if a sale were entered under applied. Here each stands alone.
 use Prim.Native.Nat.{ℕ}
-use mathlib.Core.Bool.{true, false}
+use mathlib.Core.Bool.{Bool, true, false}
 use mathlib.Core.List.{List, [], _∷_}
 use mathlib.Core.Path.{_≡_}
 use Rattle.book.specs.Ledger.{Key, key}
@@ -27,30 +27,67 @@ example =
     ∷ turnedDown (Call.Trade (record { from = 0; to = 1; set = 3; vintage = 2014; mg = 1000 }))
     ∷ []
 
--- Card 5: heavy families of 2025 that are alike but for maker, use and edition, each 1 g/hp-hr below the ordinary
--- standard, with figures by which 1 g/hp-hr is 1 Mg; and the close
-abbrev pub heavyWith : ℕ → ℕ → ℕ → ℕ → Call
-heavyWith maker vehicleUse edition fcl =
-    Call.File (record {
+-- heavy families with figures by which 1 g/hp-hr is 1 Mg
+abbrev pub heavy : Bool → ℕ → ℕ → ℕ → ℕ → ℕ → ℕ → Entry
+heavy amends maker year vehicleUse edition family fcl =
+    taken (Call.File (record {
+      amends = amends;
       maker = maker;
       set = 3;
-      year = 2025;
+      year = year;
       «vehicle_use» = vehicleUse;
       edition = edition;
-      family = 0;
+      family = family;
       fcl = fcl;
       cf = 100000;
       volume = 1000;
       life = 1;
-    })
+    }))
+
+-- Card 5: families of 2025 that are alike but for maker, use and edition, each 1 g/hp-hr below the ordinary standard;
+-- and the close
+abbrev pub heavyWith : ℕ → ℕ → ℕ → ℕ → Entry
+heavyWith maker vehicleUse edition fcl = heavy false maker 2025 vehicleUse edition 0 fcl
 
 abbrev pub editions : List Entry
 editions =
-    taken (heavyWith 0 0 1 505)
-    ∷ taken (heavyWith 1 0 2 505)
-    ∷ taken (heavyWith 2 1 0 435)
-    ∷ taken (heavyWith 3 1 2 435)
+    heavyWith 0 0 1 505
+    ∷ heavyWith 1 0 2 505
+    ∷ heavyWith 2 1 0 435
+    ∷ heavyWith 3 1 2 435
     ∷ taken (Call.Close 2025)
+    ∷ []
+
+-- Card 6: vocational families, whose standard in 2025 and 2026 is 506, filed and amended
+abbrev pub files : ℕ → ℕ → ℕ → ℕ → Entry
+files maker year family fcl = heavy false maker year 0 0 family fcl
+
+abbrev pub amends : ℕ → ℕ → ℕ → ℕ → Entry
+amends maker year family fcl = heavy true maker year 0 0 family fcl
+
+abbrev pub amendments : List Entry
+amendments =
+    files 0 2025 0 501
+    ∷ files 0 2025 1 503
+    ∷ files 0 2025 2 499
+    -- 5 Mg fall to 0, 3 become -2, and 7, amended three times, 4 in the end
+    ∷ amends 0 2025 0 506
+    ∷ amends 0 2025 2 500
+    ∷ amends 0 2025 1 508
+    ∷ amends 0 2025 2 511
+    ∷ amends 0 2025 2 502
+    -- alone in its cell: 6 Mg become -3, and 6 fall to 0
+    ∷ files 1 2025 0 500
+    ∷ amends 1 2025 0 509
+    ∷ files 2 2025 0 500
+    ∷ amends 2 2025 0 506
+    -- an amendment that was refused; the same family a year later, and its own amendment
+    ∷ files 3 2025 0 500
+    ∷ turnedDown (amends 3 2025 0 506 .call)
+    ∷ taken (Call.Close 2025)
+    ∷ files 3 2026 0 504
+    ∷ amends 3 2026 0 505
+    ∷ taken (Call.Close 2026)
     ∷ []
 
 -- the Mg at a key in document 01's order: "earned, shortfall, bought, sold, applied, retired and covered"
@@ -75,4 +112,10 @@ pub record EachAccount : Type 0 where
       × (accountsOf editions .earned (key 1 3 2025) ≡ 5)
       × (accountsOf editions .earned (key 2 3 2025) ≡ 1)
       × (accountsOf editions .earned (key 3 3 2025) ≡ 7)
+  pub lastFigures :
+      (mgAt (accountsOf amendments) (key 0 3 2025) ≡ 2 ∷ 0 ∷ 0 ∷ 0 ∷ 0 ∷ 0 ∷ 0 ∷ [])
+      × (mgAt (accountsOf amendments) (key 1 3 2025) ≡ 0 ∷ 3 ∷ 0 ∷ 0 ∷ 0 ∷ 0 ∷ 0 ∷ [])
+      × (mgAt (accountsOf amendments) (key 2 3 2025) ≡ 0 ∷ 0 ∷ 0 ∷ 0 ∷ 0 ∷ 0 ∷ 0 ∷ [])
+      × (mgAt (accountsOf amendments) (key 3 3 2025) ≡ 6 ∷ 0 ∷ 0 ∷ 0 ∷ 0 ∷ 0 ∷ 0 ∷ [])
+      × (mgAt (accountsOf amendments) (key 3 3 2026) ≡ 1 ∷ 0 ∷ 0 ∷ 0 ∷ 0 ∷ 0 ∷ 0 ∷ [])
   pub otherSet : mgAt (accountsOf example) (key 0 2 2014) ≡ 0 ∷ 0 ∷ 0 ∷ 0 ∷ 0 ∷ 0 ∷ 0 ∷ []

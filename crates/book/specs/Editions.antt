@@ -51,6 +51,7 @@ pub record SixThenSeventeen (b : Book) (f : Filing) : Type 0 where
 abbrev pub withEdition : Filing → ℕ → Filing
 withEdition f edition =
     record {
+      amends = f .amends;
       maker = f .maker;
       set = f .set;
       year = f .year;

@@ -34,6 +34,7 @@ pub record SoundParts : Type 0 where
 abbrev pub withCf : Filing → ℕ → Filing
 withCf f cf =
     record {
+      amends = f .amends;
       maker = f .maker;
       set = f .set;
       year = f .year;

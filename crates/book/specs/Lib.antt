@@ -13,6 +13,7 @@ pub mod Orders
 pub mod FilingOrder
 pub mod FiveDecimals
 pub mod Editions
+pub mod Amendments
 pub mod Listing
 pub mod Marked
 pub mod EachAccount

@@ -1,7 +1,7 @@
 -- Document 01, "Marked figures", P1 to P12, of the rules together.
 use Prim.Native.Nat.{ℕ}
 use mathlib.Core.Path.{_≡_}
-use mathlib.Core.Bool.{true}
+use mathlib.Core.Bool.{true, false}
 use lib.IntN.{pos}
 use Rattle.figuring.specs.Marked.{FiguringMarked}
 use Rattle.book.specs.Refusals.{refusalIn}
@@ -16,6 +16,7 @@ use Rattle.book.specs.declared.kinds.Call.{Call}
 abbrev pub filingWith : ℕ → ℕ → Call
 filingWith family fcl =
     Call.File (record {
+      amends = false;
       maker = 0;
       set = 3;
       year = 2014;

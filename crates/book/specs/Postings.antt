@@ -39,6 +39,10 @@ freshBook = emptyIn firstYear
 
 -- ---- File: "sets the mark and the part. Returns the part and how many families of that cell are now filed."
 
+-- Card 6: an amendment "replaces the part of a family already filed" and "returns the new part and the unchanged count".
+-- So its family's bit is set, and setting it changes nothing: it is posted as a filing is. `Amended` says it in the card's
+-- words.
+
 -- a filing's part, figured from its own arguments. Card 5: "under the standard they named"
 unfoldable pub partFor : Filing → ℤ
 partFor f =

@@ -9,7 +9,7 @@ use Rattle.book.specs.declared.answers.Refusal.the-variants.{NotAForm, U
 use Rattle.book.specs.declared.answers.Refusal.the-variants.{YearNotOpen, NoStandard, UnknownFamily, OutOfLimits}
 use Rattle.book.specs.declared.answers.Refusal.the-variants.{AlreadyFiled, VintageNotLive, ZeroAmount, SameMaker}
 use Rattle.book.specs.declared.answers.Refusal.the-variants.{HasShortage, NoOpenShortage, AboveLot, AboveShortage}
-use Rattle.book.specs.declared.answers.Refusal.the-variants.{NoEdition}
+use Rattle.book.specs.declared.answers.Refusal.the-variants.{NoEdition, NotFiled}
 use Rattle.book.specs.declared.answers.Answer.{Answer}
 use Rattle.book.specs.declared.answers.Answer.the-variants.{Refused, Filed, Closed, Left}
 use Rattle.book.specs.declared.answers.Verdict.{Verdict}
@@ -51,6 +51,8 @@ numberOf AboveLot = 15
 numberOf AboveShortage = 16
 -- Card 5: the edition is above 2, or is 1 or 2 outside sets 2 and 3 or outside 2024-2026; "checked after 6".
 numberOf NoEdition = 17
+-- Card 6: the family number isn't filed in this cell this year; "stands in place of 9".
+numberOf NotFiled = 18
 
 -- the number of an answer's refusal, 0 where the call was accepted
 unfoldable pub refusalIn : Answer → ℕ

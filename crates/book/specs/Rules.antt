@@ -1,9 +1,10 @@
 -- What a call gives, for any book and any call: the head of the refusals, then the call's own, each in the order of
--- document 01's "Refusal list", with card 5's 17 after 6; then the outcome. `CheckingOrder` has the tables by the papers'
+-- document 01's "Refusal list", with card 5's 17 after 6 and card 6's 18 in the place of 9; then
+-- the outcome. `CheckingOrder` has the tables by the papers'
 -- numbers.
 -- "A call skips the entries that don't concern it." Entries 3 (in a trade), 5 and 14 are two tests, so two rows.
 use Prim.Native.Nat.{ℕ}
-use mathlib.Core.Bool.{Bool, not}
+use mathlib.Core.Bool.{Bool, true, false, not}
 use mathlib.Core.List.{List, [], _∷_, _++_}
 use mathlib.Core.Path.{_≡_}
 use lib.Dec.{ltb, leb, eqb}
@@ -30,7 +31,7 @@ use Rattle.book.specs.declared.answers.Refusal.{Refusal}
 use Rattle.book.specs.declared.answers.Refusal.the-variants.{UnsoundBook, UnknownMaker, UnknownSet, YearNotOpen}
 use Rattle.book.specs.declared.answers.Refusal.the-variants.{NoStandard, UnknownFamily, OutOfLimits, AlreadyFiled}
 use Rattle.book.specs.declared.answers.Refusal.the-variants.{VintageNotLive, ZeroAmount, SameMaker, HasShortage}
-use Rattle.book.specs.declared.answers.Refusal.the-variants.{NoOpenShortage, AboveLot, AboveShortage, NoEdition}
+use Rattle.book.specs.declared.answers.Refusal.the-variants.{NoOpenShortage, AboveLot, AboveShortage, NoEdition, NotFiled}
 use Rattle.book.specs.declared.answers.Verdict.{Verdict}
 use Rattle.book.specs.declared.answers.Verdict.the-variants.{Accepted, Refuse}
 
@@ -40,6 +41,12 @@ headRows isSound = (not isSound ⇒ UnsoundBook) ∷ []
 
 -- ---- each call's own rows, over what they read of the book and no more: Y is the open year
 
+-- 9 of a filing; of an amendment 18, which "stands in place of 9"
+abbrev pub filedRow : Bool → Bool → Row
+filedRow false isFiled = isFiled ⇒ AlreadyFiled
+filedRow true isFiled = not isFiled ⇒ NotFiled
+
+-- a filing's, and an amendment's
 unfoldable pub fileRows : ℕ → List ℕ → Filing → List Row
 fileRows Y marks f =
     (leb makers (f .maker) ⇒ UnknownMaker)
@@ -50,7 +57,7 @@ fileRows Y marks f =
     ∷ (noEdition (f .edition) (f .set) (f .year) ⇒ NoEdition)
     ∷ (leb families (f .family) ⇒ UnknownFamily)
     ∷ (not (withinLimits (f .fcl) (f .cf) (f .volume) (f .life)) ⇒ OutOfLimits)
-    ∷ (marked (getD marks (filingCell f) 0) (f .family) ⇒ AlreadyFiled)
+    ∷ filedRow (f .amends) (marked (getD marks (filingCell f) 0) (f .family))
     ∷ []
 
 unfoldable pub closeRows : ℕ → ℕ → List Row
@@ -128,7 +135,12 @@ numbers [] = []
 numbers (x ∷ xs) = numberOf (x .why) ∷ numbers xs
 
 pub record CheckingOrder : Type 0 where
-  pub file : (b : Book) (f : Filing) → numbers (table b (Call.File f)) ≡ 2 ∷ 3 ∷ 4 ∷ 5 ∷ 5 ∷ 6 ∷ 17 ∷ 7 ∷ 8 ∷ 9 ∷ []
+  pub file :
+      (b : Book) (f : Filing)
+      → f .amends ≡ false → numbers (table b (Call.File f)) ≡ 2 ∷ 3 ∷ 4 ∷ 5 ∷ 5 ∷ 6 ∷ 17 ∷ 7 ∷ 8 ∷ 9 ∷ []
+  pub amend :
+      (b : Book) (f : Filing)
+      → f .amends ≡ true → numbers (table b (Call.File f)) ≡ 2 ∷ 3 ∷ 4 ∷ 5 ∷ 5 ∷ 6 ∷ 17 ∷ 7 ∷ 8 ∷ 18 ∷ []
   pub close : (b : Book) (y : ℕ) → numbers (table b (Call.Close y)) ≡ 2 ∷ 5 ∷ 5 ∷ []
   pub trade : (b : Book) (t : Trade) → numbers (table b (Call.Trade t)) ≡ 2 ∷ 3 ∷ 3 ∷ 4 ∷ 10 ∷ 11 ∷ 12 ∷ 13 ∷ 15 ∷ []
   pub apply :

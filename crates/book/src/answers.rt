@@ -24,6 +24,7 @@ pub enum Refusal {
     AboveLot,
     AboveShortage,
     NoEdition,
+    NotFiled,
 }
 
 pub enum Answer {
@@ -70,5 +71,6 @@ pub fn refusal_number(r: Refusal) -> u64
         Refusal::AboveLot => 15,
         Refusal::AboveShortage => 16,
         Refusal::NoEdition => 17,
+        Refusal::NotFiled => 18,
     }
 }

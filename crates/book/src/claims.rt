@@ -3,14 +3,17 @@
 ghost use mathlib.Core.Bool.{true};
 ghost use mathlib.Core.List.{List};
 ghost use mathlib.Core.Path.{_≡_};
+ghost use Prim.Native.Nat.{ℕ};
 ghost use Rattle.book.specs.Ledger.{Key, In};
 ghost use Rattle.book.specs.Rules.{CheckingOrder};
+ghost use Rattle.book.specs.Accounts.{Entry};
 ghost use Rattle.book.specs.Demand1.{Demand1};
 ghost use Rattle.book.specs.Demand3.{Demand3};
 ghost use Rattle.book.specs.Companions.{KeepsSound, NeverUnsound, Stays, StrikeOut};
 ghost use Rattle.book.specs.FilingOrder.{FilingOrder, EachAlone, SaysNoLess};
 ghost use Rattle.book.specs.FiveDecimals.{SameSessions, SoundParts};
 ghost use Rattle.book.specs.Editions.{ElseTheSame, Reaches6, SixThenSeventeen, UnderNamed};
+ghost use Rattle.book.specs.Amendments.{Amended, CountsLast, LastCounts, StandsInPlaceOf9};
 ghost use Rattle.book.specs.Marked.{MarkedFigures};
 ghost use Rattle.book.specs.EachAccount.{EachAccount};
 ghost use Rattle.book.specs.declared.ledger.Book.{Book};
@@ -115,6 +118,22 @@ pub fn under_named() -> bool
     ensures { λ r. ⌜ (r ≡ true) × ((b : Book) (f : Filing) → UnderNamed b f)
         × ((b : Book) (f : Filing) → Reaches6 b f → SixThenSeventeen b f)
         × ((b : Book) (f : Filing) → ElseTheSame b f) ⌝ }
+{
+    true
+}
+
+// Card 6: an accepted amendment replaces the part, and leaves the marks, the count and all else; 18 stands in place of 9.
+pub fn amended() -> bool
+    ensures { λ r. ⌜ (r ≡ true) × ((b : Book) (f : Filing) → Amended b f)
+        × ((b : Book) (f : Filing) → StandsInPlaceOf9 b f) ⌝ }
+{
+    true
+}
+
+// A family counts with its last accepted figures of the year, in the book and in the accounts.
+pub fn last_counts() -> bool
+    ensures { λ r. ⌜ (r ≡ true) × ((b : Book) (f g : Filing) → LastCounts b f g)
+        × ((es : List Entry) (k : Key) (family : ℕ) → CountsLast es k family) ⌝ }
 {
     true
 }

@@ -1,10 +1,12 @@
-// File: sets a family's mark and part in the open year.
+// File: sets a family's mark and part in the open year. An amendment is a filing of a family that is filed: its mark
+// stays, and its part is replaced.
 ghost use mathlib.Core.Path.{_≡_};
 ghost use Rattle.figuring.specs.Parts.{familyPart};
 ghost use Rattle.figuring.specs.Standards.{gramsOf};
 ghost use Rattle.figuring.specs.Editions.{standardUnder};
 ghost use Rattle.book.specs.Refusals.{firstRefusal};
-ghost use Rattle.book.specs.Rules.{posted, fileRows};
+ghost use Rattle.book.specs.Rules.{posted, fileRows, filedRow};
+ghost use mathlib.Core.List.{[], _∷_};
 ghost use Rattle.book.specs.declared.kinds.Call.{Call};
 use crate::answers::Answer;
 use crate::answers::Posted;
@@ -104,8 +106,25 @@ fn file_verdict(open_year: u64, marks: &[u64; 32], f: Filing) -> Verdict
         return Verdict::Refuse(Refusal::OutOfLimits);
     }
     let cell = f.maker * SETS + f.set;
-    if is_marked(marks[cell as usize], f.family) {
-        return Verdict::Refuse(Refusal::AlreadyFiled);
+    let filed = is_marked(marks[cell as usize], f.family);
+    filed_verdict(f.amends, filed)
+}
+
+// Whether the family is filed: a filing's must not be, an amendment's must.
+fn filed_verdict(amends: bool, filed: bool) -> Verdict
+    ensures { λ r. ⌜ r ≡ firstRefusal (filedRow amends filed ∷ []) ⌝ }
+{
+    if amends {
+        if filed {
+            Verdict::Accepted
+        } else {
+            Verdict::Refuse(Refusal::NotFiled)
+        }
+    } else {
+        if filed {
+            Verdict::Refuse(Refusal::AlreadyFiled)
+        } else {
+            Verdict::Accepted
+        }
     }
-    Verdict::Accepted
 }

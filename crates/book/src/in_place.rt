@@ -17,6 +17,7 @@ use crate::ledger::Book;
 use crate::retiring::retire;
 use crate::trading::trade;
 
+// A filing, or an amendment where it amends.
 pub fn file_in(book: &mut Book, f: Filing) -> Answer
     ensures { λ a. ⌜ (a ≡ posted (now (book .entry)) (Call.File f) .answer)
         × (now (book .exit) ≡ posted (now (book .entry)) (Call.File f) .book) ⌝ }

@@ -1,5 +1,7 @@
 // The calls of document 01, with the arguments other than the book.
+// A filing; or, where it amends, an amendment, which has the same fields (card 6).
 pub struct Filing {
+    pub amends: bool,
     pub maker: u64,
     pub set: u64,
     pub year: u64,

@@ -1,4 +1,4 @@
-// Puts calls to books that no session reaches, whatever their figures, to hold a second implementation against the five
+// Puts calls to books that no session reaches, whatever their figures, to hold a second implementation against the
 // calls and soundness. Standard input holds records of 3,628 words, each a book and a call; for each record it writes
 // 3,621 words: whether the book is sound, the answer, and the book after the call. A word is 64 bits, low byte first.
 // A last record that is cut short is ignored. A kind of call that is not known ends the run, with a message.

@@ -131,7 +131,7 @@ fn asked_of(input: &[u8]) -> Asked
 {
     let kind = word(input, KIND);
     match kind {
-        0 => Asked::Post(Call::File(filing_of(input))),
+        0 => Asked::Post(Call::File(filing_of(input, false))),
         1 => Asked::Post(Call::Close(argument(input, 0))),
         2 => Asked::Post(Call::Trade(Trade {
             from: argument(input, 0),
@@ -153,14 +153,17 @@ fn asked_of(input: &[u8]) -> Asked
             vintage: argument(input, 2),
             mg: argument(input, 3),
         })),
+        5 => Asked::Post(Call::File(filing_of(input, true))),
         _ => Asked::Unknown,
     }
 }
 
-fn filing_of(input: &[u8]) -> Filing
+// A filing or an amendment.
+fn filing_of(input: &[u8], amends: bool) -> Filing
     requires { ⌜ recordBytes ≡ length (now input) ⌝ }
 {
     Filing {
+        amends,
         maker: argument(input, 0),
         set: argument(input, 1),
         year: argument(input, 2),

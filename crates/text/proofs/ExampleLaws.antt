@@ -28,7 +28,7 @@ run =
 
 pub fields : Fields
 unfolding lineOf lineAt figures fit number leading value worth
-fields = record { file = refl; trade = refl; apply = refl; retire = refl }
+fields = record { file = refl; amend = refl; trade = refl; apply = refl; retire = refl }
 
 pub edges : Edges
 unfolding lineOf lineAt figures fit number leading value worth linesFrom

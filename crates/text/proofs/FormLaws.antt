@@ -10,6 +10,7 @@ use lib.ListN.{length, getD, drop}
 use borrow.Author.Tests.{le-ltb, ltb-false}
 use Rattle.figuring.proofs.BoolLaws.{both}
 use Rattle.book.specs.declared.kinds.Call.{Call}
+use Rattle.book.specs.declared.kinds.Filing.{Filing}
 use Rattle.text.specs.declared.lines.Line.{Line}
 use Rattle.text.specs.Pattern.{fit, filled, hashes, figures, figuresOf, padded}
 use Rattle.text.specs.Line.{Form, forms, firstForm, lineIf, lineAt, lineOf, longestLine, mostDigits}
@@ -99,13 +100,18 @@ record Formed (c : Call) : Type 0 where
   count : length (figuresIn c) ≡ hashes (formOf c .pattern)
   made : formOf c .call (padded (figuresIn c)) ≡ c
 
+filed : (amends : Bool) (x : Filing) → x .amends ≡ amends → Formed (Call.File x)
+unfolding hashes
+filed false x e = record { place = 0; is-there = rw e; count = rw e; made = rw e }
+filed true x e = record { place = 1; is-there = rw e; count = rw e; made = rw e }
+
 formed : (c : Call) → Formed c
 unfolding hashes
-formed (Call.File x) = record { place = 0; is-there = refl; count = refl; made = refl }
-formed (Call.Close x) = record { place = 1; is-there = refl; count = refl; made = refl }
-formed (Call.Trade x) = record { place = 2; is-there = refl; count = refl; made = refl }
-formed (Call.Apply x) = record { place = 3; is-there = refl; count = refl; made = refl }
-formed (Call.Retire x) = record { place = 4; is-there = refl; count = refl; made = refl }
+formed (Call.File x) = filed (x .amends) x refl
+formed (Call.Close x) = record { place = 2; is-there = refl; count = refl; made = refl }
+formed (Call.Trade x) = record { place = 3; is-there = refl; count = refl; made = refl }
+formed (Call.Apply x) = record { place = 4; is-there = refl; count = refl; made = refl }
+formed (Call.Retire x) = record { place = 5; is-there = refl; count = refl; made = refl }
 
 -- every form of a list passes a test
 unfoldable pub every : (Form → Bool) → List Form → Bool

@@ -1,5 +1,6 @@
--- The longest text of a filing that some book accepts: its figures are within their limits, so they have few digits.
+-- The longest text of a filing or an amendment that some book accepts: its figures are within their limits, so they have few digits.
 use Prim.Native.Nat.{ℕ, suc, _+_, _^_, _<_, _≤_}
+use mathlib.Core.Bool.{Bool, true, false}
 use mathlib.Core.Path.{_≡_, refl}
 use native.Mathlib.Omega.{arith}
 use lib.ListN.{length}
@@ -11,8 +12,8 @@ use Rattle.book.specs.declared.kinds.Call.{Call}
 use Rattle.book.specs.declared.kinds.Filing.{Filing}
 use Rattle.book.proofs.FileFacts.{Fileable, accepted-filing}
 use Rattle.text.specs.Numeral.{numeral}
-use Rattle.text.specs.Line.{file, longestLine}
-use Rattle.text.specs.Rendered.{CanBeTyped, figuresIn, rendered}
+use Rattle.text.specs.Line.{longestLine}
+use Rattle.text.specs.Rendered.{CanBeTyped, figuresIn, filingForm, rendered}
 use Rattle.text.proofs.NumeralLaws.{numeral-short}
 use Rattle.text.proofs.FillLaws.{filled-digits}
 
@@ -23,6 +24,10 @@ _and_ p q = (p, q)
 
 digits : (k n : ℕ) → n < 10 ^ suc k → length (numeral n) ≤ suc k
 digits k n h = numeral-short k 20 n h
+
+form-length : (amends : Bool) → length (filingForm amends .pattern) ≤ 100
+form-length false = let p : length (filingForm false .pattern) ≡ 99 = refl in omega (arith, p)
+form-length true = let p : length (filingForm true .pattern) ≡ 100 = refl in omega (arith, p)
 
 module _ (b : Book) (f : Filing) (h : Fileable b f) where
   limits : Limited (f .fcl) (f .cf) (f .volume) (f .life)
@@ -36,11 +41,10 @@ module _ (b : Book) (f : Filing) (h : Fileable b f) where
 
   short : length (rendered (Call.File f)) ≤ longestLine
   short =
-      let p : length (file .pattern) ≡ 99 = refl in
       omega (
         arith,
-        p,
-        filled-digits (file .pattern) (figuresIn (Call.File f)),
+        form-length (f .amends),
+        filled-digits (filingForm (f .amends) .pattern) (figuresIn (Call.File f)),
         digits 0 (f .maker) (omega (arith, h .maker)),
         digits 0 (f .set) (omega (arith, h .set)),
         digits 3 (f .year) (omega (arith, h .year, h .upto)),

@@ -1,6 +1,7 @@
 -- A line of each form and an answer of each kind, from document 01's run (credit_book's stored test has the run whole),
 -- a line of each form with figures that differ, and what lies at the edges of a form.
 use Prim.Native.Nat.{ℕ}
+use mathlib.Core.Bool.{true, false}
 use mathlib.Core.Path.{_≡_}
 use mathlib.Core.List.{List, [], _∷_, _++_}
 use lib.IntN.{pos}
@@ -30,6 +31,7 @@ pub record Run : Type 0 where
   pub file :
       ascii "(file (maker 0) (set 3) (year 2014) (use 1) (edition 0) (family 0) (fcl 465) (cf 280000) (volume 1000) (life 435))"
       reads Call.File (record {
+        amends = false;
         maker = 0;
         set = 3;
         year = 2014;
@@ -64,6 +66,22 @@ pub record Fields : Type 0 where
   pub file :
       ascii "(file (maker 1) (set 2) (year 2025) (use 0) (edition 3) (family 4) (fcl 5) (cf 6) (volume 7) (life 8))"
       reads Call.File (record {
+        amends = false;
+        maker = 1;
+        set = 2;
+        year = 2025;
+        «vehicle_use» = 0;
+        edition = 3;
+        family = 4;
+        fcl = 5;
+        cf = 6;
+        volume = 7;
+        life = 8;
+      })
+  pub amend :
+      ascii "(amend (maker 1) (set 2) (year 2025) (use 0) (edition 3) (family 4) (fcl 5) (cf 6) (volume 7) (life 8))"
+      reads Call.File (record {
+        amends = true;
         maker = 1;
         set = 2;
         year = 2025;

@@ -1,7 +1,7 @@
 -- Document 01, "Terminal text": which line is which call.
 use Prim.Native.Nat.{ℕ}
 use mathlib.Core.Bool.{Bool, true, false}
-use mathlib.Core.List.{List, [], _∷_}
+use mathlib.Core.List.{List, [], _∷_, _++_}
 use lib.Dec.{ltb}
 use lib.ListN.{length, getD, drop}
 use Rattle.book.specs.declared.kinds.Call.{Call}
@@ -25,24 +25,33 @@ pub record Form : Type 0 where
 abbrev pub figure : List ℕ → ℕ → ℕ
 figure n i = getD n i 0
 
+-- a filing's fields
+abbrev pub filingFields : List ℕ
+filingFields =
+    ascii "(maker #) (set #) (year #) (use #) (edition #) (family #) (fcl #) (cf #) (volume #) (life #)"
+
+abbrev pub filingCall : Bool → List ℕ → Call
+filingCall amends n =
+    Call.File (record {
+      amends = amends;
+      maker = figure n 0;
+      set = figure n 1;
+      year = figure n 2;
+      «vehicle_use» = figure n 3;
+      edition = figure n 4;
+      family = figure n 5;
+      fcl = figure n 6;
+      cf = figure n 7;
+      volume = figure n 8;
+      life = figure n 9;
+    })
+
 abbrev pub file : Form
-file =
-    record {
-      pattern = ascii "(file (maker #) (set #) (year #) (use #) (edition #) (family #) (fcl #) (cf #) (volume #) (life #))";
-      call =
-          λ n. Call.File (record {
-            maker = figure n 0;
-            set = figure n 1;
-            year = figure n 2;
-            «vehicle_use» = figure n 3;
-            edition = figure n 4;
-            family = figure n 5;
-            fcl = figure n 6;
-            cf = figure n 7;
-            volume = figure n 8;
-            life = figure n 9;
-          });
-    }
+file = record { pattern = ascii "(file " ++ filingFields ++ ascii ")"; call = filingCall false }
+
+-- Card 6: "An `(amend ..)` line takes a filing's fields"
+abbrev pub amend : Form
+amend = record { pattern = ascii "(amend " ++ filingFields ++ ascii ")"; call = filingCall true }
 
 abbrev pub close : Form
 close = record { pattern = ascii "(close (year #))"; call = λ n. Call.Close (figure n 0) }
@@ -96,8 +105,11 @@ fromTrade = trade ∷ fromApply
 abbrev pub fromClose : List Form
 fromClose = close ∷ fromTrade
 
+abbrev pub fromAmend : List Form
+fromAmend = amend ∷ fromClose
+
 abbrev pub forms : List Form
-forms = file ∷ fromClose
+forms = file ∷ fromAmend
 
 abbrev pub lineIf : Bool → Line → Line → Line
 lineIf true a b = a

@@ -1,6 +1,6 @@
 -- The line that a call is written as, and what reading has to do with it.
 use Prim.Native.Nat.{ℕ, _^_, _<_, _≤_}
-use mathlib.Core.Bool.{true}
+use mathlib.Core.Bool.{Bool, true, false}
 use mathlib.Core.Path.{_≡_}
 use mathlib.Core.List.{List, [], _∷_}
 use lib.ListN.{length}
@@ -11,10 +11,14 @@ use Rattle.book.specs.declared.kinds.Call.{Call}
 use Rattle.book.specs.declared.kinds.Filing.{Filing}
 use Rattle.text.specs.declared.lines.Line.{Line}
 use Rattle.text.specs.Pattern.{filled}
-use Rattle.text.specs.Line.{Form, file, close, trade, apply, retire, lineOf, longestLine, mostDigits}
+use Rattle.text.specs.Line.{Form, file, amend, close, trade, apply, retire, lineOf, longestLine, mostDigits}
+
+abbrev pub filingForm : Bool → Form
+filingForm false = file
+filingForm true = amend
 
 abbrev pub formOf : Call → Form
-formOf (Call.File x) = file
+formOf (Call.File x) = filingForm (x .amends)
 formOf (Call.Close x) = close
 formOf (Call.Trade x) = trade
 formOf (Call.Apply x) = apply
@@ -53,7 +57,7 @@ pub record IsText (s : List ℕ) (c : Call) : Type 0 where
   pub short : length s ≤ longestLine
   pub small : Small mostDigits (figuresIn c)
 
--- A filing that some book accepts, so one with every figure within its limits, can be typed: its text is short enough.
+-- A filing or an amendment that some book accepts, so one with every figure within its limits, can be typed: its text is short enough.
 abbrev pub CanBeTyped : Book → Filing → Type 0
 CanBeTyped b f = isAccepted (posted b (Call.File f) .answer) ≡ true → IsText (rendered (Call.File f)) (Call.File f)
 

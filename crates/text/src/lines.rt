@@ -1,7 +1,7 @@
-// The five forms of document 01: a line to a call.
+// The forms of document 01, and card 6's: a line to a call.
 ghost use mathlib.Core.Path.{_≡_};
-ghost use Rattle.text.specs.Line.{file, close, trade, apply, retire};
-ghost use Rattle.text.specs.Line.{forms, fromClose, fromTrade, fromApply, fromRetire, firstForm, lineAt};
+ghost use Rattle.text.specs.Line.{apply, close, filingCall, retire, trade};
+ghost use Rattle.text.specs.Line.{forms, fromAmend, fromClose, fromTrade, fromApply, fromRetire, firstForm, lineAt};
 use crate::patterns::MOST_FIGURES;
 use crate::patterns::fitted;
 use book::kinds::Application;
@@ -47,15 +47,31 @@ fn form_of(line: &[u8]) -> Line
     );
     if read.fits {
         let n = read.n;
-        return Line::Form(file_of(n));
+        return Line::Form(filing_of(false, n));
+    }
+    from_amend(line)
+}
+
+fn from_amend(line: &[u8]) -> Line
+    ensures { λ r. ⌜ r ≡ firstForm fromAmend (now (line .entry)) ⌝ }
+{
+    let read = fitted(
+        b"(amend (maker #) (set #) (year #) (use #) (edition #) (family #) (fcl #) (cf #) (volume #) (life #))",
+        line,
+        MOST_DIGITS,
+    );
+    if read.fits {
+        let n = read.n;
+        return Line::Form(filing_of(true, n));
     }
     from_close(line)
 }
 
-fn file_of(n: [u64; MOST_FIGURES]) -> Call
-    ensures { λ r. ⌜ r ≡ file .call n ⌝ }
+fn filing_of(amends: bool, n: [u64; MOST_FIGURES]) -> Call
+    ensures { λ r. ⌜ r ≡ filingCall amends n ⌝ }
 {
     Call::File(Filing {
+        amends,
         maker: n[0],
         set: n[1],
         year: n[2],

@@ -2,15 +2,17 @@
 //! each answer, only whether it was a refusal. Nothing is read from a book.
 
 use crate::book::{cell, CELLS, MAKERS, SETS};
-use crate::figuring::{named_standard, part, rounded, year_index, YEARS};
+use crate::figuring::{named_standard, part, rounded, year_index, Part, YEARS};
 use crate::postings::{Call, Filing};
+use std::array;
+use std::collections::BTreeMap;
 
 /// One maker, set and year. The paper's numbers have no bound; 128 bits hold
 /// more than 2^63 calls of any 64-bit amount.
-#[derive(Clone, Copy, Debug, Default, PartialEq, Eq)]
+#[derive(Clone, Debug, Default, PartialEq, Eq)]
 pub struct Account {
-    /// In part units; all else is Mg.
-    pub sum: i128,
+    /// Each family's, as last accepted; all else is Mg.
+    pub parts: BTreeMap<u64, Part>,
     pub earned: i128,
     pub shortfall: i128,
     pub bought: i128,
@@ -21,6 +23,11 @@ pub struct Account {
 }
 
 impl Account {
+    /// In part units.
+    pub fn sum(&self) -> i128 {
+        self.parts.values().map(|part| i128::from(part.0)).sum()
+    }
+
     pub fn lot(&self) -> i128 {
         self.earned + self.bought - self.sold - self.applied - self.retired
     }
@@ -30,7 +37,7 @@ impl Account {
     }
 
     fn close(&mut self) {
-        let net = rounded(self.sum);
+        let net = rounded(self.sum());
         if net > 0 {
             self.earned = net;
         } else {
@@ -51,7 +58,7 @@ pub struct Accounts {
 impl Default for Accounts {
     fn default() -> Self {
         Accounts {
-            by_cell: vec![[Account::default(); YEARS]; CELLS],
+            by_cell: vec![array::from_fn(|_| Account::default()); CELLS],
         }
     }
 }
@@ -63,7 +70,7 @@ impl Accounts {
             return Ok(());
         }
         match call {
-            Call::File(filing) => self.file(filing)?,
+            Call::File(filing) | Call::Amend(filing) => self.count(filing)?,
             Call::Close { year } => self.close(*year)?,
             Call::Trade(c) => {
                 self.account_mut(c.from, c.set, c.vintage)?.sold += i128::from(c.mg);
@@ -90,12 +97,14 @@ impl Accounts {
         Ok(&mut self.by_cell[cell][year])
     }
 
-    /// A family counts under the standard that its filing named.
-    fn file(&mut self, filing: &Filing) -> Result<(), OutOfPlace> {
+    /// A family counts with these figures, under the standard that they name,
+    /// in place of those it counted with.
+    fn count(&mut self, filing: &Filing) -> Result<(), OutOfPlace> {
         let part = named_standard(filing.edition, filing.set, filing.usage, filing.year)
             .and_then(|standard| part(standard, &filing.figures))
             .ok_or(OutOfPlace)?;
-        self.account_mut(filing.maker, filing.set, filing.year)?.sum += i128::from(part.0);
+        let account = self.account_mut(filing.maker, filing.set, filing.year)?;
+        account.parts.insert(filing.family, part);
         Ok(())
     }
 

@@ -62,7 +62,7 @@ impl Audit {
 
     fn hold_touched(&self, call: &Call, book: &Book) -> Result<(), Violation> {
         match call {
-            Call::File(c) => self.hold_place(book, c.maker, c.set, c.year),
+            Call::File(c) | Call::Amend(c) => self.hold_place(book, c.maker, c.set, c.year),
             Call::Close { year } => self.hold_year(book, *year),
             Call::Trade(c) => {
                 self.hold_place(book, c.from, c.set, c.vintage)?;

@@ -1,4 +1,4 @@
-//! The five postings, each with its refusals in the paper's checking order.
+//! The six postings, each with its refusals in the paper's checking order.
 
 use crate::book::{cell, Book, CELLS, FAMILIES, MAKERS, SETS};
 use crate::figuring::{
@@ -10,7 +10,11 @@ use crate::figuring::{
 #[derive(Clone, Copy, Debug, PartialEq, Eq)]
 pub enum Call {
     File(Filing),
-    Close { year: u64 },
+    /// Its figures take the place of those the family was filed with.
+    Amend(Filing),
+    Close {
+        year: u64,
+    },
     Trade(Trade),
     Apply(Application),
     Retire(Retirement),
@@ -67,7 +71,8 @@ pub enum Results {
 }
 
 /// The refusal list; each value is the paper's number. `NoEdition` is checked
-/// between `NoStandard` and `Family`.
+/// between `NoStandard` and `Family`, and `NotFiled` stands in an amendment in
+/// place of `AlreadyFiled`.
 #[derive(Clone, Copy, Debug, PartialEq, Eq)]
 pub enum Refusal {
     NoForm = 1,
@@ -87,6 +92,7 @@ pub enum Refusal {
     AboveTheLot = 15,
     AboveTheShortage = 16,
     NoEdition = 17,
+    NotFiled = 18,
 }
 
 impl Refusal {
@@ -102,6 +108,7 @@ pub fn post(book: &mut Book, call: &Call) -> Answer {
     require(book.is_sound(), Refusal::UnsoundBook)?;
     match call {
         Call::File(filing) => file(book, filing),
+        Call::Amend(amended) => amend(book, amended),
         Call::Close { year } => close(book, *year),
         Call::Trade(trade) => post_trade(book, trade),
         Call::Apply(application) => apply(book, application),
@@ -113,22 +120,51 @@ pub fn post(book: &mut Book, call: &Call) -> Answer {
 // last check.
 
 fn file(book: &mut Book, filing: &Filing) -> Answer {
+    let family = figured(book, filing)?;
+    require(!is_filed(book, &family), Refusal::AlreadyFiled)?;
+
+    book.marks[family.cell] |= 1 << family.number;
+    Ok(put(book, &family))
+}
+
+fn amend(book: &mut Book, amended: &Filing) -> Answer {
+    let family = figured(book, amended)?;
+    require(is_filed(book, &family), Refusal::NotFiled)?;
+
+    Ok(put(book, &family))
+}
+
+/// A family's place in the book, and the part it is to have.
+struct Family {
+    cell: usize,
+    number: usize,
+    part: Part,
+}
+
+/// What a filing and an amendment are asked alike: all but whether the family
+/// is filed.
+fn figured(book: &Book, filing: &Filing) -> Result<Family, Refusal> {
     let maker = known_maker(filing.maker)?;
     let set = known_set(filing.set)?;
     require_open_year(book, filing.year)?;
     let standard = standard_of(filing)?;
-    let family = below(filing.family, FAMILIES).ok_or(Refusal::Family)?;
+    let number = below(filing.family, FAMILIES).ok_or(Refusal::Family)?;
     let part = part(standard, &filing.figures).ok_or(Refusal::Limits)?;
     let cell = cell(maker, set);
-    let bit = 1 << family;
-    require(book.marks[cell] & bit == 0, Refusal::AlreadyFiled)?;
+    Ok(Family { cell, number, part })
+}
 
-    book.marks[cell] |= bit;
-    book.parts[cell][family] = part;
-    Ok(Results::Filed {
+fn is_filed(book: &Book, family: &Family) -> bool {
+    book.marks[family.cell] >> family.number & 1 == 1
+}
+
+fn put(book: &mut Book, family: &Family) -> Results {
+    let &Family { cell, number, part } = family;
+    book.parts[cell][number] = part;
+    Results::Filed {
         part,
         families: book.filed(cell),
-    })
+    }
 }
 
 /// The standard that a filing names. Whatever its edition, refusal 6 goes by

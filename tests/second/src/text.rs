@@ -27,6 +27,8 @@ impl Reader<'_> {
     fn call(&mut self) -> Option<Call> {
         let call = if self.take(b"(file").is_some() {
             Call::File(self.filing()?)
+        } else if self.take(b"(amend").is_some() {
+            Call::Amend(self.filing()?)
         } else if self.take(b"(close").is_some() {
             Call::Close {
                 year: self.field(b"year")?,
@@ -180,21 +182,8 @@ impl Call {
     /// The form's name and its fields in order.
     pub fn form(&self) -> (&'static str, Vec<(&'static str, u64)>) {
         match self {
-            Call::File(c) => (
-                "file",
-                vec![
-                    ("maker", c.maker),
-                    ("set", c.set),
-                    ("year", c.year),
-                    ("use", c.usage),
-                    ("edition", c.edition),
-                    ("family", c.family),
-                    ("fcl", c.figures.fcl),
-                    ("cf", c.figures.cf),
-                    ("volume", c.figures.volume),
-                    ("life", c.figures.life),
-                ],
-            ),
+            Call::File(c) => ("file", filing_fields(c)),
+            Call::Amend(c) => ("amend", filing_fields(c)),
             Call::Close { year } => ("close", vec![("year", *year)]),
             Call::Trade(c) => (
                 "trade",
@@ -227,6 +216,22 @@ impl Call {
             ),
         }
     }
+}
+
+/// An amendment has them too.
+fn filing_fields(c: &Filing) -> Vec<(&'static str, u64)> {
+    vec![
+        ("maker", c.maker),
+        ("set", c.set),
+        ("year", c.year),
+        ("use", c.usage),
+        ("edition", c.edition),
+        ("family", c.family),
+        ("fcl", c.figures.fcl),
+        ("cf", c.figures.cf),
+        ("volume", c.figures.volume),
+        ("life", c.figures.life),
+    ]
 }
 
 impl fmt::Display for Call {

@@ -4,11 +4,12 @@
 mod common;
 
 use common::*;
-use second::audit::Audit;
+use second::accounts::{Account, Accounts};
+use second::audit::{Audit, Violation};
 use second::book::Book;
 use second::figuring::{Figures, Mg, Part};
 use second::generate::{session, Kind};
-use second::postings::{post, Answer, Call, Refusal};
+use second::postings::{post, Answer, Call, Filing, Refusal};
 use second::text::{parse, Lines};
 use std::convert::Infallible;
 
@@ -101,9 +102,79 @@ fn an_accepted_call_outside_the_accounts_is_noticed() {
         "(file (maker 0) (set 3) (year 2015) (use 0) (edition 0) (family 0) (fcl 0) (cf 1) (volume 1) (life 1))",
         "(file (maker 0) (set 3) (year 2015) (use 0) (edition 1) (family 0) (fcl 1) (cf 1) (volume 1) (life 1))",
         "(file (maker 0) (set 3) (year 2015) (use 0) (edition 3) (family 0) (fcl 1) (cf 1) (volume 1) (life 1))",
+        "(amend (maker 8) (set 3) (year 2015) (use 0) (edition 0) (family 0) (fcl 1) (cf 1) (volume 1) (life 1))",
+        "(amend (maker 0) (set 3) (year 2015) (use 0) (edition 0) (family 0) (fcl 0) (cf 1) (volume 1) (life 1))",
+        "(amend (maker 0) (set 3) (year 2015) (use 0) (edition 1) (family 0) (fcl 1) (cf 1) (volume 1) (life 1))",
     ] {
         assert!(audit.judge(&call(line), true, &book, &book).is_err(), "{line}");
     }
+}
+
+/// Family 5 is filed with 7 Mg and amended to -3, which leaves `amended`.
+fn judged_after(amended: &Book) -> Result<(), Violation> {
+    let (mut audit, mut book) = (Audit::default(), Book::fresh());
+    let file = Call::File(plain(5, 560));
+    let before = book.clone();
+    post(&mut book, &file).expect("accepted");
+    audit.judge(&file, true, &before, &book)?;
+    audit.judge(&Call::Amend(plain(5, 570)), true, &book, amended)?;
+    let mut after = amended.clone();
+    close(&mut after).expect("accepted");
+    audit.judge(&call(CLOSE), true, amended, &after)?;
+    audit.hold_all(&after)
+}
+
+/// That an amendment was wrong shows at the close.
+#[test]
+fn a_balance_of_other_figures_than_the_last_is_noticed() {
+    let leaves = |mg: i64| {
+        let mut book = Book::fresh();
+        book.marks[3] = 1 << 5;
+        book.parts[3][5] = Part(mg * MG);
+        book
+    };
+    assert_eq!(judged_after(&leaves(-3)), Ok(()));
+    // The first figures, both, their difference, none, and each family twice.
+    for mg in [7, 7 - 3, -3 - 7, 0, -3 - 3] {
+        assert!(judged_after(&leaves(mg)).is_err(), "{mg}");
+    }
+    // The new figures in another family of the cell beside the first, and in
+    // another cell.
+    let mut beside = leaves(7);
+    beside.marks[3] |= 1 << 6;
+    beside.parts[3][6] = Part(-3 * MG);
+    assert!(judged_after(&beside).is_err());
+    let mut elsewhere = leaves(7);
+    (elsewhere.marks[7], elsewhere.parts[7]) = (elsewhere.marks[3], leaves(-3).parts[3]);
+    assert!(judged_after(&elsewhere).is_err());
+}
+
+#[test]
+fn the_accounts_count_a_family_with_its_last_accepted_figures() {
+    let mut accounts = Accounts::default();
+    let sum = |accounts: &Accounts| accounts.account(0, 3, 2014).map(Account::sum);
+    let mg = |mg: i64| Ok(i128::from(mg * MG));
+    for (form, filing, accepted, total) in [
+        (Call::File as fn(Filing) -> Call, plain(5, 560), true, 7),
+        (Call::File, plain(9, 565), true, 7 + 2),
+        (Call::Amend, plain(5, 570), true, -3 + 2),
+        (Call::Amend, plain(5, 1), false, -3 + 2),
+        (Call::File, plain(5, 1), false, -3 + 2),
+        (Call::Amend, plain(9, 567), true, -3),
+        (Call::Amend, plain(5, 570), true, -3),
+        (Call::Amend, plain(9, 500), true, -3 + 67),
+        (Call::Amend, plain(5, 566), true, 1 + 67),
+    ] {
+        let fed = accounts.feed(&form(filing), accepted);
+        assert_eq!((fed, sum(&accounts)), (Ok(()), mg(total)), "{filing:?}");
+    }
+    // Nothing of it is another year's, set's or maker's.
+    for (maker, set, year) in [(0, 3, 2015), (0, 2, 2014), (1, 3, 2014)] {
+        let other = accounts.account(maker, set, year);
+        assert_eq!(other, Ok(&Account::default()));
+    }
+    accounts.feed(&call(CLOSE), true).expect("in place");
+    assert_eq!(accounts.account(0, 3, 2014).map(Account::lot), Ok(68));
 }
 
 /// The sums of the cells at each close.
@@ -162,7 +233,7 @@ fn most_families_need_the_fifth_decimal_of_cf() {
 
 #[test]
 fn hostile_sessions_reach_the_ends_of_cf() {
-    let filings = filings(Kind::Hostile, 0..4);
+    let filings = filings(Kind::Hostile, 0..8);
     let count = |wanted: u64, answered: fn(&Answer) -> bool| {
         let like = filings.iter().filter(|(filing, answer)| {
             let others = Figures {
@@ -190,7 +261,7 @@ fn hostile_sessions_meet_every_refusal_a_terminal_can_give() {
         let input = session(Kind::Hostile, seed, Kind::Hostile.usual_lines());
         answers += &output_in_pieces(&input, 4_096);
     }
-    for number in (1..=17).filter(|&number| number != UNSOUND) {
+    for number in (1..=18).filter(|&number| number != UNSOUND) {
         assert!(answers.contains(&format!("(no {number})\n")), "{number}");
     }
     for state in ["live", "expired", "open", "overdue"] {

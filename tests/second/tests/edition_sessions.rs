@@ -28,7 +28,7 @@ fn sessions_file_under_every_edition_in_every_column_and_year() {
     for (kind, seeds, least) in [
         (Kind::Years, 0..8, 20),
         (Kind::Hostile, 0..8, 6),
-        (Kind::Mixed, 0..8, 15),
+        (Kind::Mixed, 0..12, 15),
         (Kind::Full, 0..2, 80),
     ] {
         let filings = filings(kind, seeds);
@@ -72,8 +72,12 @@ fn sessions_meet_refusal_17_for_each_of_its_causes() {
         "2027",
         "after 2027",
     ];
-    for (kind, least) in [(Kind::Years, 6), (Kind::Hostile, 20), (Kind::Mixed, 8)] {
-        let filings = filings(kind, 0..8);
+    for (kind, seeds, least) in [
+        (Kind::Years, 0..24, 8),
+        (Kind::Hostile, 0..12, 20),
+        (Kind::Mixed, 0..8, 8),
+    ] {
+        let filings = filings(kind, seeds);
         for wanted in causes {
             let found = count(&filings, |f, answer| {
                 answer == Err(17) && cause(f) == wanted

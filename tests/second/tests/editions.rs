@@ -113,7 +113,7 @@ fn the_accounts_take_the_named_standard() {
         assert_eq!(fed.is_ok(), answer > 17, "{filing:?}");
         if let Ok(account) = accounts.account(0, filing.set, filing.year) {
             let part = if fed.is_ok() { answer - 1 } else { 0 };
-            assert_eq!(account.sum, i128::from(part), "{filing:?}");
+            assert_eq!(account.sum(), i128::from(part), "{filing:?}");
         }
     });
 }

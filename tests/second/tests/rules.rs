@@ -208,6 +208,7 @@ fn nothing_lies_in_the_open_year_or_later() {
 fn an_unsound_book_refuses_every_call_first() {
     let calls = [
         "(file (maker 8) (set 4) (year 1) (use 2) (edition 3) (family 64) (fcl 0) (cf 0) (volume 0) (life 0))",
+        "(amend (maker 8) (set 4) (year 1) (use 2) (edition 3) (family 64) (fcl 0) (cf 0) (volume 0) (life 0))",
         "(close (year 1))",
         "(trade (from 8) (to 8) (set 4) (vintage 1) (mg 0))",
         "(apply (maker 8) (set 4) (vintage 1) (year 1) (mg 0))",

@@ -80,16 +80,19 @@ fn near_forms_are_no_forms() {
     }
     assert!(is_form("(close (year 1))"));
     assert!(is_form("(retire (maker 0) (set 0) (vintage 0) (mg 0))"));
-    assert!(is_form(&filing_of(SHORTEST)));
+    for name in ["file", "amend"] {
+        let shortest = SHORTEST + name.len();
+        assert!(is_form(&line_of(name, shortest)), "{name}");
+    }
 }
 
-/// A filing whose ten numbers have one digit each.
-const SHORTEST: usize = 99;
+/// A form with a filing's ten numbers of one digit each, its name aside.
+const SHORTEST: usize = 95;
 
-/// A right filing but for its length; its maker is above 7.
-fn filing_of(length: usize) -> String {
+/// A right filing or amendment but for its length; its maker is above 7.
+fn line_of(name: &str, length: usize) -> String {
     let mut digits = [1; 10];
-    let mut missing = length - SHORTEST;
+    let mut missing = length - SHORTEST - name.len();
     for count in &mut digits {
         let more = missing.min(11);
         *count += more;
@@ -97,15 +100,15 @@ fn filing_of(length: usize) -> String {
     }
     let [a, b, c, d, e, f, g, h, i, j] = digits.map(|count| "9".repeat(count));
     format!(
-        "(file (maker {a}) (set {b}) (year {c}) (use {d}) (edition {e}) (family {f}) (fcl {g}) \
+        "({name} (maker {a}) (set {b}) (year {c}) (use {d}) (edition {e}) (family {f}) (fcl {g}) \
          (cf {h}) (volume {i}) (life {j}))"
     )
 }
 
 /// Every number at its greatest, and no smaller one is longer.
 #[test]
-fn a_filing_that_is_taken_fits_on_a_line() {
-    let longest = Call::File(Filing {
+fn what_is_taken_fits_on_a_line() {
+    let longest = Filing {
         maker: 7,
         set: 3,
         year: 2026,
@@ -118,12 +121,14 @@ fn a_filing_that_is_taken_fits_on_a_line() {
             volume: MAX_VOLUME,
             life: MAX_LIFE,
         },
-    });
+    };
     let mut book = book(2026, &[], &[]);
-    assert!(post(&mut book, &longest).is_ok());
-    let line = longest.to_string();
-    assert_eq!(line.len(), 119);
-    assert!(line.len() <= LINE_LIMIT);
+    for (call, length) in [(Call::File(longest), 119), (Call::Amend(longest), 120)] {
+        assert!(post(&mut book, &call).is_ok());
+        let line = call.to_string();
+        assert_eq!(line.len(), length);
+        assert!(line.len() <= LINE_LIMIT);
+    }
 }
 
 #[test]
@@ -134,12 +139,13 @@ fn a_line_has_at_most_160_bytes() {
         (161, "(no 1)\n"),
         (209, "(no 1)\n"),
     ] {
-        let line = filing_of(length);
-        assert_eq!(line.len(), length);
-        for piece in [1, 100, 160, 161, 1_000] {
-            let fed = output_in_pieces(format!("{line}\n").as_bytes(), piece);
-            assert_eq!(fed, answer, "{length}");
-            assert_eq!(output_in_pieces(line.as_bytes(), piece), answer, "{length}");
+        for line in ["file", "amend"].map(|name| line_of(name, length)) {
+            assert_eq!(line.len(), length);
+            for piece in [1, 100, 160, 161, 1_000] {
+                let fed = output_in_pieces(format!("{line}\n").as_bytes(), piece);
+                assert_eq!(fed, answer, "{line}");
+                assert_eq!(output_in_pieces(line.as_bytes(), piece), answer, "{line}");
+            }
         }
     }
 }
@@ -197,4 +203,49 @@ fn cells_are_listed_maker_before_set_lots_before_shortages() {
 (lot 1 0 2016 live 1)
 ";
     assert_eq!(String::from_utf8(out).expect("plain text"), expected);
+}
+
+#[test]
+fn the_form_has_a_filings_fields() {
+    let filing = Call::File(plain(5, 560)).to_string();
+    let line = filing.replacen("file", "amend", 1);
+    assert_eq!(parse(line.as_bytes()), Some(Call::Amend(plain(5, 560))));
+    assert_eq!(Call::Amend(plain(5, 560)).to_string(), line);
+}
+
+#[test]
+fn near_forms_of_the_amendment_are_no_forms() {
+    let right = Call::Amend(plain(5, 560)).to_string();
+    let fields: Vec<&str> = right[7..right.len() - 1].split_inclusive(") ").collect();
+    assert_eq!(fields.len(), 10);
+    let heads = "amends Amend AMEND amended ammend amen amenD mend fileamend file(amend refile";
+    let mut near: Vec<String> = heads
+        .split(' ')
+        .map(|head| right.replacen("amend", head, 1))
+        .collect();
+    for (place, field) in fields.iter().enumerate() {
+        near.push(right.replacen(&format!(" {}", field.trim_end()), "", 1));
+        near.push(right.replacen(field, &format!("{field} {field}"), 1));
+        near.push(right.replacen(field, &format!(" {field}"), 1));
+        near.push(right.replacen(field, &field.replacen(' ', "  ", 1), 1));
+        if let Some(next) = fields.get(place + 1) {
+            let (one, other) = (field.trim_end(), next.trim_end());
+            near.push(right.replacen(&format!("{one} {other}"), &format!("{other} {one}"), 1));
+        }
+    }
+    near.extend([
+        format!("{right} "),
+        format!(" {right}"),
+        format!("{right})"),
+    ]);
+    near.extend([
+        format!("({right})"),
+        format!("{right}\r"),
+        right.replacen(' ', "", 1),
+    ]);
+    for line in &near {
+        assert_ne!(*line, right);
+        assert!(parse(line.as_bytes()).is_none(), "{line}");
+    }
+    assert!(parse(right.as_bytes()).is_some());
 }

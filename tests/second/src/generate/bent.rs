@@ -98,13 +98,13 @@ const EDGES: &[&str] = &[
 
 const NAMES: &[&str] = &[
     "maker", "set", "year", "use", "edition", "family", "fcl", "cf", "volume", "life", "from",
-    "to", "vintage", "mg", "file", "close", "trade", "apply", "retire", "fresh", "list", "MAKER",
-    "Maker", "make", "makers", "editions", "", "0", "ok", "no",
+    "to", "vintage", "mg", "file", "amend", "close", "trade", "apply", "retire", "fresh", "list",
+    "MAKER", "Maker", "make", "makers", "editions", "", "0", "ok", "no",
 ];
 
 /// A form as text that can be bent.
 pub(super) struct Bent {
-    name: String,
+    pub(super) name: String,
     pub(super) fields: Vec<(String, String)>,
 }
 
@@ -145,10 +145,10 @@ impl Script {
 
     /// A form that is right but for its length, around 160 bytes.
     pub(super) fn long_numbers(&mut self) {
-        let Some(call) = self.plausible_filing() else {
+        let Some((form, figures)) = self.plausible_figures() else {
             return self.long_line();
         };
-        let mut form = Bent::of(&call);
+        let mut form = Bent::of(&form(figures));
         let length = self.rng.between(157, 164) as usize;
         // The maker, the set, the year, the use or the edition is refused.
         let first = self.rng.index(5);

@@ -1,10 +1,11 @@
 //! The editions that filings name, and lines for their edges.
 
+use super::amendments::Form;
 use super::bent::Bent;
 use super::{Script, TELLING_YEARS};
 use crate::book::cell;
 use crate::figuring::{named_standard, MAX_CF};
-use crate::postings::{Call, Filing};
+use crate::postings::Filing;
 
 /// Above 2; a narrower type takes the last ones for 0, 1 or 2.
 const ABOVE: [u64; 12] = [
@@ -82,18 +83,18 @@ impl Script {
     }
 
     pub(super) fn edition_line(&mut self) {
-        match self.plausible_filing() {
-            Some(Call::File(filing)) if self.rng.once_in(5) => self.bent_edition(&filing),
-            Some(Call::File(filing)) => self.edition_at_an_edge(filing),
+        match self.plausible_figures() {
+            Some((form, filing)) if self.rng.once_in(5) => self.bent_edition(form, filing),
+            Some((form, filing)) => self.edition_at_an_edge(form, filing),
             _ => self.near_form(),
         }
     }
 
     /// Any edition in any set, and half of the time one thing more that is
     /// refused before it or after it.
-    fn edition_at_an_edge(&mut self, mut filing: Filing) {
+    fn edition_at_an_edge(&mut self, form: Form, mut filing: Filing) {
         filing.edition = self.telling_edition();
-        match self.rng.below(22) {
+        match self.rng.below(24) {
             0 => filing.maker = 8,
             1 => filing.set = 4,
             2 => filing.year -= 1,
@@ -103,10 +104,12 @@ impl Script {
             7 => filing.family = 64,
             8 => filing.figures.fcl = 0,
             9 => filing.figures.cf = MAX_CF + 1,
+            // Refusal 9, or 18 of an amendment, most likely.
             10 => filing.family = self.filed_family(filing.maker, filing.set),
+            11 => filing.family ^= 1,
             _ => {}
         }
-        self.say(Call::File(filing));
+        self.say(form(filing));
     }
 
     /// The first family that is filed in the cell; 0 if there is none.
@@ -117,8 +120,8 @@ impl Script {
 
     /// The form before card 5, or one with its edition before the use, after
     /// the family or twice.
-    fn bent_edition(&mut self, filing: &Filing) {
-        let mut form = Bent::of(&Call::File(*filing));
+    fn bent_edition(&mut self, form: Form, filing: Filing) {
+        let mut form = Bent::of(&form(filing));
         let edition = form.fields.remove(PLACE);
         match self.rng.below(4) {
             0 => {}

@@ -95,7 +95,7 @@ impl Script {
     }
 }
 
-fn at_the_limits(fcl: u64) -> Figures {
+pub(super) fn at_the_limits(fcl: u64) -> Figures {
     Figures {
         fcl,
         cf: MAX_CF,

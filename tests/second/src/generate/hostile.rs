@@ -29,6 +29,9 @@ impl Script {
         let mut closing = year;
         while self.lines < lines {
             if self.lines >= closing {
+                if self.rng.once_in(2) {
+                    self.amend_before_the_close();
+                }
                 self.close();
                 let spans = if self.is_telling_year() { 2 } else { 1 };
                 closing = self.lines + spans * year;
@@ -55,6 +58,9 @@ impl Script {
         if self.edition_is_due() {
             return self.edition_line();
         }
+        if self.rng.once_in(5) {
+            return self.amendment_line();
+        }
         match self.rng.below(12) {
             0 | 1 => self.edges(),
             2 => self.long_numbers(),
@@ -69,9 +75,10 @@ impl Script {
 
     /// A call that could be accepted or nearly.
     pub(super) fn some_call(&mut self) -> Call {
-        let plausible = match self.rng.below(3) {
+        let plausible = match self.rng.below(4) {
             0 => self.plausible_filing(),
-            1 => self.plausible_posting(),
+            1 => self.plausible_amendment(),
+            2 => self.plausible_posting(),
             _ => None,
         };
         plausible.unwrap_or_else(|| self.refusable_call())

@@ -1,8 +1,10 @@
 //! Sessions for testing, the same ones for the same kind, seed and length.
 
+mod amendments;
 mod bent;
 mod editions;
 mod full;
+mod halves;
 mod hostile;
 mod refusals;
 pub mod rng;
@@ -11,6 +13,7 @@ mod years;
 use crate::book::{Book, CELLS};
 use crate::postings::{post, Call};
 use crate::text::parse;
+use amendments::Families;
 use rng::Rng;
 use std::fmt;
 use std::ops::RangeInclusive;
@@ -96,6 +99,7 @@ struct Script {
     careless: [bool; CELLS],
     /// How far a cell's levels lie from the standard this year, g/hp-hr.
     leaning: [i64; CELLS],
+    families: Families,
 }
 
 impl Script {
@@ -109,6 +113,7 @@ impl Script {
             lines: 0,
             careless,
             leaning: [0; CELLS],
+            families: Families::default(),
         };
         script.lean();
         script
@@ -132,7 +137,9 @@ impl Script {
         self.text.push(b'\n');
         self.lines += 1;
         if let Some(call) = parse(line) {
-            let _ = post(&mut self.book, &call);
+            if post(&mut self.book, &call).is_ok() {
+                self.families.take(&call);
+            }
         }
     }
 

@@ -37,11 +37,10 @@ impl Script {
         self.say(Call::File(filing));
     }
 
-    /// A plausible filing but for one figure at or one step beside a limit.
+    /// A plausible filing or amendment but for one figure at or one step
+    /// beside a limit.
     fn filing_at_a_limit(&mut self) -> Option<Call> {
-        let Some(Call::File(mut filing)) = self.plausible_filing() else {
-            return None;
-        };
+        let (form, mut filing) = self.plausible_figures()?;
         let outside = self.rng.below(2);
         let largest = self.rng.once_in(2);
         let edge = |low: u64, high: u64| {
@@ -58,7 +57,7 @@ impl Script {
             4 => filing.figures.life = edge(1, MAX_LIFE),
             _ => filing.family = 63 + outside,
         }
-        Some(Call::File(filing))
+        Some(form(filing))
     }
 
     /// A CF at an end of its limits or one step beside it, or where they ended
@@ -94,18 +93,19 @@ impl Script {
     /// A call whose arguments lie within a step of being accepted, so that
     /// several refusals concern it and their order shows.
     pub(super) fn refusable_call(&mut self) -> Call {
-        match self.rng.below(50) {
+        match self.rng.below(58) {
             0 => Call::Close {
                 year: self.near_open_year(),
             },
             1..=12 => Call::File(self.near_filing()),
-            13..=24 => Call::Trade(self.near_trade()),
-            25..=38 => Call::Apply(self.near_application()),
+            13..=20 => Call::Amend(self.near_amendment()),
+            21..=32 => Call::Trade(self.near_trade()),
+            33..=46 => Call::Apply(self.near_application()),
             _ => Call::Retire(self.near_retirement()),
         }
     }
 
-    fn near_filing(&mut self) -> Filing {
+    pub(super) fn near_filing(&mut self) -> Filing {
         let (set, year) = (self.near(0, 3), self.near_open_year());
         Filing {
             maker: self.near(0, 7),

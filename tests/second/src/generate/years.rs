@@ -3,8 +3,7 @@
 use super::Script;
 use crate::book::{cell, CELLS, FAMILIES, MAKERS, SETS};
 use crate::figuring::{
-    is_live, is_open, named_standard, standard, Figures, Mg, ALL_CLOSED, FIRST_YEAR, HALF_A_MG,
-    MAX_CF, MAX_LIFE, MAX_VOLUME, PARTS_IN_A_MG, YEARS,
+    is_live, is_open, named_standard, standard, Figures, Mg, ALL_CLOSED, FIRST_YEAR, YEARS,
 };
 use crate::postings::{Application, Call, Filing, Retirement, Trade};
 
@@ -13,9 +12,6 @@ const SPANS: usize = YEARS + 1;
 /// Cells brought to a half before a year's close, at two lines each, now and
 /// then three.
 const HALVES: usize = 3;
-/// The part of a family with the most CF and volume, one g/hp-hr beside its
-/// standard and a life of 1.
-const STEP: u64 = MAX_CF * MAX_VOLUME;
 
 impl Script {
     pub(super) fn years(&mut self, lines: usize) {
@@ -29,6 +25,9 @@ impl Script {
                     self.land_on_a_half();
                 }
             }
+            if self.lines + 2 <= end && self.rng.once_in(2) {
+                self.amend_before_the_close();
+            }
             if span < SPANS && self.lines < end {
                 self.close();
             }
@@ -40,10 +39,12 @@ impl Script {
 
     /// A line as a terminal sees it on an ordinary day.
     pub(super) fn plausible_line(&mut self) {
-        let call = if self.rng.once_in(2) {
-            self.plausible_filing().or_else(|| self.plausible_posting())
-        } else {
-            self.plausible_posting().or_else(|| self.plausible_filing())
+        let call = match self.rng.below(16) {
+            0 | 1 => self
+                .plausible_amendment()
+                .or_else(|| self.plausible_filing()),
+            2..=8 => self.plausible_filing().or_else(|| self.plausible_posting()),
+            _ => self.plausible_posting().or_else(|| self.plausible_filing()),
         };
         match call {
             Some(call) => self.say(call),
@@ -205,72 +206,6 @@ impl Script {
     pub(super) fn open_shortages(&self, cell: usize) -> Vec<u64> {
         let open_year = self.book.open_year;
         years_above_zero(&self.book.shortages[cell], |y| is_open(open_year, y))
-    }
-
-    /// Files up to three more families so that a cell's sum lies at a half or
-    /// one unit beside it: after an even Mg or after an odd one, above zero or
-    /// below. Once in three times the whole sum comes to half a Mg or to one
-    /// and a half.
-    pub(super) fn land_on_a_half(&mut self) {
-        let half = [1, 3, -1, -3][self.rng.index(4)] * HALF_A_MG;
-        let beside = [-1, 0, 0, 1][self.rng.index(4)];
-        let first = self.rng.index(CELLS);
-        let cell_named = (first..first + CELLS)
-            .map(|cell| cell % CELLS)
-            .find(|&cell| self.sum(cell).signum() != -half.signum())
-            .unwrap_or(first);
-        let (maker, set) = names(cell_named);
-        let year = self.book.open_year;
-        let edition = self.fitting_edition(set, year);
-        let standard = named_standard(edition, set, 0, year);
-        let Some(standard) = standard.filter(|_| year != ALL_CLOSED) else {
-            return;
-        };
-        let sum = self.sum(cell_named);
-        let over = if self.rng.once_in(3) && sum.unsigned_abs() < MAX_LIFE * STEP {
-            sum
-        } else {
-            sum % (2 * PARTS_IN_A_MG)
-        };
-        let missing = half + beside - over;
-        let size = missing.unsigned_abs();
-        let level = i64::from(standard) - missing.signum();
-        let rest = size % STEP;
-        // Large enough that the volume keeps its limit; what is left, less
-        // than it, is the last family's CF.
-        let cf = match self.rng.below(4) {
-            0 => MAX_CF,
-            _ => self.rng.between(rest.div_ceil(MAX_VOLUME).max(1), MAX_CF),
-        };
-        for (cf, volume, life) in [
-            (MAX_CF, MAX_VOLUME, size / STEP),
-            (cf, rest / cf, 1),
-            (rest % cf, 1, 1),
-        ] {
-            let free = (!self.book.marks[cell_named]).trailing_zeros();
-            if cf == 0 || volume == 0 || life == 0 || free == 64 {
-                continue;
-            }
-            self.say(Call::File(Filing {
-                maker,
-                set,
-                year,
-                usage: 0,
-                edition,
-                family: u64::from(free),
-                figures: Figures {
-                    fcl: level.max(1) as u64,
-                    cf,
-                    volume,
-                    life,
-                },
-            }));
-        }
-    }
-
-    /// The sum of a cell's parts.
-    fn sum(&self, cell: usize) -> i64 {
-        self.book.parts[cell].iter().map(|part| part.0).sum()
     }
 }
 

@@ -2,8 +2,10 @@
 
 #![allow(dead_code)]
 
+pub mod any;
+
 use second::book::{cell, Book};
-use second::figuring::{Mg, Part};
+use second::figuring::{Figures, Mg, Part, PARTS_IN_A_MG};
 use second::generate::{session, Kind};
 use second::postings::{post, Answer, Call, Filing, Refusal, Results};
 use second::session::Session;
@@ -23,19 +25,28 @@ pub fn output(input: &str) -> String {
     output_in_pieces(input.as_bytes(), 1 << 16)
 }
 
+/// Hands `see` every call of generated sessions, with the book before it and
+/// the answer.
+pub fn each_call(kind: Kind, seeds: Range<u64>, mut see: impl FnMut(&Book, &Call, Answer)) {
+    for seed in seeds {
+        let mut book = Book::fresh();
+        let mut before = book.clone();
+        for call in any::calls(&session(kind, seed, kind.usual_lines())) {
+            before.clone_from(&book);
+            let answer = post(&mut book, &call);
+            see(&before, &call, answer);
+        }
+    }
+}
+
 /// The filings of generated sessions, each with its answer.
 pub fn filings(kind: Kind, seeds: Range<u64>) -> Vec<(Filing, Answer)> {
     let mut seen = Vec::new();
-    for seed in seeds {
-        let mut book = Book::fresh();
-        let input = session(kind, seed, kind.usual_lines());
-        for call in input.split(|&byte| byte == b'\n').filter_map(parse) {
-            let answer = post(&mut book, &call);
-            if let Call::File(filing) = call {
-                seen.push((filing, answer));
-            }
+    each_call(kind, seeds, |_, call, answer| {
+        if let Call::File(filing) = call {
+            seen.push((*filing, answer));
         }
-    }
+    });
     seen
 }
 
@@ -129,3 +140,37 @@ pub fn refusal_of(book: &Book, line: &str) -> u8 {
 }
 
 pub const UNSOUND: u8 = Refusal::UnsoundBook as u8;
+
+pub const MG: i64 = PARTS_IN_A_MG;
+
+/// A vocational family of maker 0 in set 3, 2014, with 1 Mg a g/hp-hr below the
+/// standard, 567.
+pub fn plain(family: u64, fcl: u64) -> Filing {
+    Filing {
+        maker: 0,
+        set: 3,
+        year: 2014,
+        usage: 0,
+        edition: 0,
+        family,
+        figures: Figures {
+            fcl,
+            cf: 1_000_000,
+            volume: 100,
+            life: 1,
+        },
+    }
+}
+
+/// Family 5 is filed with 7 Mg, family 9 with 2.
+pub fn two_families() -> Book {
+    let mut book = Book::fresh();
+    for filing in [plain(5, 560), plain(9, 565)] {
+        post(&mut book, &Call::File(filing)).expect("accepted");
+    }
+    book
+}
+
+pub fn amend(book: &mut Book, amended: Filing) -> Answer {
+    post(book, &Call::Amend(amended))
+}

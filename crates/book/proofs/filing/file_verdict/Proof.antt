@@ -133,15 +133,13 @@ element-copy-out-is-marked c = search needs
 is-marked-requires : tie.Need-is-marked-requires
 is-marked-requires c κs = search needs
 
+filed-verdict-requires : tie.Need-filed-verdict-requires
+filed-verdict-requires c κs = search needs
+
 returns-9 : tie.Need-returns-9
 unfolding fileRows
 returns-9 c =
-    sym (past-8 (c .before .before .before .before .before) ∙ rw (← (c .before .is-marked .ensures), c .if9 .taken))
-
-returns-10 : tie.Need-returns-10
-unfolding fileRows
-returns-10 c =
-    sym (past-8 (c .before .before .before .before .before) ∙ rw (← (c .before .is-marked .ensures), c .if9 .left))
+    sym (past-8 (c .before .before .before .before .before) ∙ rw (← (c .before .is-marked .ensures)) (sym (c .filed-verdict .ensures)))
 
 pub file-verdict-spec : {M : Type 1} → statement M
 file-verdict-spec =
@@ -164,5 +162,5 @@ file-verdict-spec =
     mul-is-marked
     element-copy-out-is-marked
     is-marked-requires
-    returns-9
-    returns-10)
+    filed-verdict-requires
+    returns-9)

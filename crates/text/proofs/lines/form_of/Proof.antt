@@ -1,7 +1,7 @@
 use mathlib.Core.Path.{refl}
 use lib.Dec.{lit≤}
 use Rattle.text.specs.Pattern.{hashes}
-use Rattle.text.specs.Line.{file, fromClose}
+use Rattle.text.specs.Line.{file, fromAmend}
 use Rattle.text.proofs.FirstFormLaws.{fits, passes}
 use Rattle.text.proofs.lines.form_of.Statement.{statement}
 use Rattle.text.proofs.lines.form_of.Tie as tie
@@ -12,12 +12,12 @@ fitted-requires c κs = (lit≤ tt, lit≤ tt)
 
 returns : tie.Need-returns
 returns c =
-    fits file fromClose _ (c .before .before .before .fitted .ensures) (c .before .before .if1 .taken)
-    (c .file-of .ensures)
+    fits file fromAmend _ (c .before .before .before .fitted .ensures) (c .before .before .if1 .taken)
+    (c .filing-of .ensures)
 
 returns-2 : tie.Need-returns-2
 returns-2 c =
-    passes file fromClose _ (c .before .before .fitted .ensures) (c .before .if1 .left) (c .from-close .ensures)
+    passes file fromAmend _ (c .before .before .fitted .ensures) (c .before .if1 .left) (c .from-amend .ensures)
 
 pub form-of-spec : {M : Type 1} → statement M
 form-of-spec =

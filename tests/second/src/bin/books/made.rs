@@ -137,6 +137,7 @@ fn sound_parts(rng: &mut Rng, mark: u64) -> [Part; FAMILIES] {
         parts[family] = Part(match style {
             0 => limit,
             1 => -limit,
+            _ if rng.once_in(8) => 0,
             2 => up_to(rng, PARTS_IN_A_MG),
             _ => up_to(rng, room),
         });

@@ -1,0 +1,199 @@
+-- Card 6: what an accepted amendment replaces, which amendments are accepted, and that in the book the last one counts.
+use Prim.Native.Nat.{ℕ, _+_, _*_, _<_}
+use mathlib.Core.Bool.{Bool, true, false, not, _&&_, true≢false}
+use mathlib.Core.List.{List, [], _∷_, _++_}
+use mathlib.Core.Path.{_≡_, refl, sym, _∙_, ap, subst}
+use native.Mathlib.Omega.{arith}
+use borrow.Author.Tests.{not-true}
+use lib.Dec.{eqb}
+use lib.ListN.{getD, set as store, length, take}
+use lib.Seq.{getD-set-same, set-getD, set-set}
+use lib.IntN.{ℤ}
+use Rattle.figuring.proofs.BoolLaws.{both}
+use Rattle.book.specs.Sizes.{families}
+use Rattle.book.specs.Ledger.{cell, marked, withMark}
+use Rattle.book.specs.Soundness.{sound}
+use Rattle.book.specs.Refusals.{Row, orElse, firstRefusal, numberOf, refusalIn}
+use Rattle.book.specs.Postings.{partFor, filingCell, stored}
+use Rattle.book.specs.Rules.{posted, done, outcome, table, headRows, ownRows, fileRows, filedRow}
+use Rattle.book.specs.Demand3.{isAccepted}
+use Rattle.book.specs.Companions.{Sized}
+use Rattle.book.specs.FilingOrder.{Family, familyOf}
+use Rattle.book.specs.Amendments.{withAmends, replaced, Amended, inPlaceOf9, StandsInPlaceOf9, LastCounts}
+use Rattle.book.specs.declared.ledger.Book.{Book}
+use Rattle.book.specs.declared.kinds.Call.{Call}
+use Rattle.book.specs.declared.kinds.Filing.{Filing}
+use Rattle.book.specs.declared.answers.Posted.{Posted}
+use Rattle.book.specs.declared.answers.Verdict.{Verdict}
+use Rattle.book.specs.declared.answers.Verdict.the-variants.{Accepted, Refuse}
+use Rattle.book.proofs.TableLaws.{by-verdict}
+use Rattle.book.proofs.FileFacts.{Fileable, fileable}
+use Rattle.book.proofs.FilingLaws.{mark-here, file-lawful}
+use Rattle.book.proofs.SoundnessLaws.{is-sound}
+use Rattle.book.proofs.MarkLaws.{marked-same, mark-kept}
+
+-- ---- what an accepted amendment replaces
+pub amends : (b : Book) (f : Filing) → Amended b f
+unfolding ownRows done stored partFor isAccepted
+amends b f =
+    by-verdict b (Call.File (withAmends true f)) (λ p. isAccepted (p .answer) ≡ true → p ≡ replaced b f)
+    (λ r a. absurd (true≢false (sym a)))
+    (λ s e a.
+    let mark = getD (b .marks) (filingCell f) 0 in
+    let k : withMark mark (f .family) ≡ mark = mark-kept mark (f .family) (fileable b (withAmends true f) s e .mark) in
+    let m : store (b .marks) (filingCell f) mark ≡ b .marks = set-getD (b .marks) (filingCell f) 0 in
+    rw (k, m))
+
+-- ---- which are accepted
+-- the number of a verdict, 0 where it accepts
+abbrev numbered : Verdict → ℕ
+numbered Accepted = 0
+numbered (Refuse r) = numberOf r
+
+-- no row gives 0 or 9
+unfoldable other : List Row → Bool
+other [] = true
+other (x ∷ xs) = not (eqb (numberOf (x .why)) 0) && (not (eqb (numberOf (x .why)) 9) && other xs)
+
+-- 18 or none in the place of none or 9, after rows that give neither
+module _ (isFiled : Bool) where
+  last-row : numbered (firstRefusal (filedRow true isFiled ∷ [])) ≡ inPlaceOf9 (numbered (firstRefusal (filedRow false isFiled ∷ [])))
+  last-row = go isFiled
+    where
+      go : (t : Bool) → numbered (firstRefusal (filedRow true t ∷ [])) ≡ inPlaceOf9 (numbered (firstRefusal (filedRow false t ∷ [])))
+      go true = refl
+      go false = refl
+
+  stands :
+      (xs : List Row) → other xs ≡ true
+      → numbered (firstRefusal (xs ++ filedRow true isFiled ∷ []))
+      ≡ inPlaceOf9 (numbered (firstRefusal (xs ++ filedRow false isFiled ∷ [])))
+  unfolding other
+  stands [] e = last-row
+  stands (x ∷ xs) e =
+      let p = both (not (eqb (numberOf (x .why)) 0)) (not (eqb (numberOf (x .why)) 9) && other xs) e in
+      let q = both (not (eqb (numberOf (x .why)) 9)) (other xs) (p .1) in
+      go (x .test) (not-true (eqb (numberOf (x .why)) 0) (p .0)) (not-true (eqb (numberOf (x .why)) 9) (q .0)) (stands xs (q .1))
+    where
+      go :
+          (t : Bool) → eqb (numberOf (x .why)) 0 ≡ false → eqb (numberOf (x .why)) 9 ≡ false
+          → numbered (firstRefusal (xs ++ filedRow true isFiled ∷ []))
+          ≡ inPlaceOf9 (numbered (firstRefusal (xs ++ filedRow false isFiled ∷ [])))
+          → numbered (orElse t (x .why) (firstRefusal (xs ++ filedRow true isFiled ∷ [])))
+          ≡ inPlaceOf9 (numbered (orElse t (x .why) (firstRefusal (xs ++ filedRow false isFiled ∷ []))))
+      go true n m ih = rw (n, m)
+      go false n m ih = ih
+
+-- the rows before the last, which read neither the marks nor whether the call amends
+abbrev rowsBefore : Book → Filing → List Row
+rowsBefore b f = headRows (sound b) ++ take 8 (fileRows (b .«open_year») [] f)
+
+abbrev isFiledIn : Book → Filing → Bool
+isFiledIn b f = marked (getD (b .marks) (filingCell f) 0) (f .family)
+
+rows-are : (b : Book) (f : Filing) → table b (Call.File f) ≡ rowsBefore b f ++ filedRow (f .amends) (isFiledIn b f) ∷ []
+unfolding table headRows ownRows fileRows
+rows-are b f = refl
+
+number-of : (b : Book) (f : Filing) → refusalIn (posted b (Call.File f) .answer) ≡ numbered (firstRefusal (table b (Call.File f)))
+unfolding posted done stored refusalIn
+number-of b f = go (firstRefusal (table b (Call.File f)))
+  where
+    go : (v : Verdict) → refusalIn (outcome v b (done b (Call.File f)) .answer) ≡ numbered v
+    go Accepted = refl
+    go (Refuse r) = refl
+
+pub stands-in-place : (b : Book) (f : Filing) → StandsInPlaceOf9 b f
+unfolding table headRows ownRows fileRows other
+stands-in-place b f =
+    number-of b (withAmends true f)
+    ∙ stands (isFiledIn b f) (rowsBefore b f) refl
+    ∙ ap inPlaceOf9 (sym (number-of b (withAmends false f)))
+
+-- ---- the last one counts
+-- a part stored over another: as if it alone had been stored
+stored-again :
+    (b : Book) (c f : ℕ) (y z : ℤ) → c < length (b .marks) → stored (stored b c f y .book) c f z ≡ stored b c f z
+unfolding stored
+stored-again b c f y z h =
+    let mark = getD (b .marks) c 0 in
+    let m = getD-set-same (b .marks) c (withMark mark f) 0 h in
+    let k = mark-kept (withMark mark f) f (marked-same mark f) in
+    let s = set-set (b .marks) c (withMark mark f) (withMark mark f) in
+    let p = set-set (b .parts) (c * families + f) y z in
+    rw (m, k, s, p)
+
+-- a last row that passes
+passing : (xs : List Row) (x : Row) → x .test ≡ false → firstRefusal (xs ++ x ∷ []) ≡ firstRefusal xs
+passing [] x e = rw e
+passing (y ∷ ys) x e = ap (orElse (y .test) (y .why)) (passing ys x e)
+
+-- a family that is filed as the call would have it
+as-asked : (amends isFiled : Bool) → isFiled ≡ amends → filedRow amends isFiled .test ≡ false
+as-asked true isFiled e = rw e
+as-asked false isFiled e = e
+
+verdict-is :
+    (b : Book) (f : Filing) → isFiledIn b f ≡ f .amends
+    → firstRefusal (table b (Call.File f)) ≡ firstRefusal (rowsBefore b f)
+verdict-is b f e = ap firstRefusal (rows-are b f) ∙ passing (rowsBefore b f) _ (as-asked (f .amends) (isFiledIn b f) e)
+
+-- one answer, and where it accepts one book
+abbrev SameAs : Posted → Posted → Type 0
+SameAs p q = (p .answer ≡ q .answer) × (isAccepted (q .answer) ≡ true → p .book ≡ q .book)
+
+module _ (b : Book) (f g : Filing) (z : Sized b) (h : Fileable b f) (same : familyOf f ≡ familyOf g) where
+  abbrev after : Book
+  after = done b (Call.File f) .book
+
+  -- g in f's place, and after it
+  abbrev there : Filing
+  there = withAmends (f .amends) g
+
+  same-cell : filingCell g ≡ filingCell f
+  same-cell = ap (λ (k : Family). cell (k .maker) (k .set)) (sym same)
+
+  same-number : g .family ≡ f .family
+  same-number = ap (λ (k : Family). k .number) (sym same)
+
+  sound-after : sound after ≡ sound b
+  sound-after = is-sound after (file-lawful b f h .sound z) ∙ sym (h .sound)
+
+  same-verdict : firstRefusal (table after (Call.File (withAmends true g))) ≡ firstRefusal (table b (Call.File there))
+  unfolding done stored fileRows
+  same-verdict =
+      verdict-is after (withAmends true g)
+      (mark-here b (filingCell f) (f .family) (partFor f) z (omega (arith, h .maker, h .set)) (h .family)
+      (filingCell g) (g .family) (same-cell, same-number))
+      ∙ ap (λ (s : Bool). firstRefusal (headRows s ++ take 8 (fileRows (b .«open_year») [] g))) sound-after
+      ∙ sym (verdict-is b there (rw (same-cell, same-number) (h .mark)))
+
+  same-done : done after (Call.File (withAmends true g)) ≡ done b (Call.File there)
+  unfolding done partFor
+  same-done =
+      rw (same-cell, same-number)
+      (stored-again b (filingCell f) (f .family) (partFor f) (partFor g) (omega (arith, h .maker, h .set, z .marks)))
+
+  by-cases :
+      (v : Verdict)
+      → SameAs (outcome v after (done after (Call.File (withAmends true g)))) (outcome v b (done b (Call.File there)))
+  unfolding isAccepted
+  by-cases Accepted = (ap (λ (p : Posted). p .answer) same-done, λ a. ap (λ (p : Posted). p .book) same-done)
+  by-cases (Refuse r) = (refl, λ a. absurd (true≢false (sym a)))
+
+  in-its-place : SameAs (posted after (Call.File (withAmends true g))) (posted b (Call.File there))
+  unfolding posted
+  in-its-place =
+      subst (λ (v : Verdict). SameAs (outcome v after (done after (Call.File (withAmends true g)))) (posted b (Call.File there)))
+      (sym same-verdict) (by-cases (firstRefusal (table b (Call.File there))))
+
+pub last-counts : (b : Book) (f g : Filing) → LastCounts b f g
+unfolding ownRows isAccepted
+last-counts b f g z a same =
+    let w =
+    by-verdict b (Call.File f)
+    (λ p. isAccepted (p .answer) ≡ true
+    → SameAs (posted (p .book) (Call.File (withAmends true g))) (posted b (Call.File (withAmends (f .amends) g))))
+    (λ r t. absurd (true≢false (sym t))) (λ s e t. in-its-place b f g z (fileable b f s e) same) a
+    in
+    record { answer = w .0; book = w .1 }

@@ -1,0 +1,68 @@
+-- Card 6, of the accounts: a family's part is that of the last accepted filing or amendment of it.
+use Prim.Native.Nat.{ℕ}
+use mathlib.Core.Bool.{Bool, true, false, cond, _&&_}
+use mathlib.Core.List.{List, [], _∷_, _++_}
+use mathlib.Core.Path.{_≡_, refl, sym, _∙_, ap}
+use borrow.Author.Tests.{eqb-true, eq-eqb}
+use lib.Dec.{eqb}
+use Rattle.book.specs.Ledger.{Key}
+use Rattle.book.specs.Postings.{partFor}
+use Rattle.book.specs.Accounts.{Accounts, Entry, zeroAccounts, sameKey, move, whenAccepted, feed, feedAll, accountsOf}
+use Rattle.book.specs.Amendments.{keyOf, acceptedFiling, NoneOf, CountsLast}
+use Rattle.book.specs.declared.kinds.Call.{Call}
+use Rattle.book.specs.declared.kinds.Filing.{Filing}
+use Rattle.book.proofs.LedgerLaws.{same-true}
+use Rattle.book.proofs.AmongLaws.{later}
+
+same-self : (k : Key) → sameKey k k ≡ true
+unfolding sameKey
+same-self k = rw (eq-eqb (k .maker) (k .maker) refl, eq-eqb (k .set) (k .set) refl, eq-eqb (k .year) (k .year) refl)
+
+module _ (k : Key) (family : ℕ) where
+  -- a call that is no accepted filing or amendment of the family leaves its part
+  leaves :
+      (a : Accounts) (c : Call) (accepted : Bool)
+      → ((f : Filing) → c ≡ Call.File f → accepted ≡ true → keyOf f ≡ k → f .family ≡ family → ⊥)
+      → whenAccepted accepted (move a c) a .last k family ≡ a .last k family
+  leaves a c false n = refl
+  leaves a (Call.File f) true n = go (sameKey (keyOf f) k) (eqb (f .family) family) refl refl
+    where
+      go :
+          (s t : Bool) → sameKey (keyOf f) k ≡ s → eqb (f .family) family ≡ t
+          → cond (s && t) (partFor f) (a .last k family) ≡ a .last k family
+      go true true p q = absurd (n f refl refl (same-true (keyOf f) k p) (eqb-true (f .family) family q))
+      go true false p q = refl
+      go false t p q = refl
+  leaves a (Call.Close y) true n = refl
+  leaves a (Call.Trade t) true n = refl
+  leaves a (Call.Apply p) true n = refl
+  leaves a (Call.Retire p) true n = refl
+
+  leaves-all : (es : List Entry) (a : Accounts) → NoneOf es k family → feedAll a es .last k family ≡ a .last k family
+  unfolding feedAll feed
+  leaves-all [] a n = refl
+  leaves-all (e ∷ es) a n =
+      leaves-all es (feed a e) (λ f p. n f (later e p))
+      ∙ leaves a (e .call) (e .accepted) (λ f c t.
+      let q : acceptedFiling f ≡ e = λ i. record { call = sym c i; accepted = sym t i } in
+      n f (record { before = []; after = es; here = ap (λ (x : Entry). x ∷ es) (sym q) }))
+
+  -- one that is sets it
+  sets : (a : Accounts) (f : Filing) → keyOf f ≡ k → f .family ≡ family → feed a (acceptedFiling f) .last k family ≡ partFor f
+  unfolding feed
+  sets a f p q = rw (p, q, same-self k, eq-eqb family family refl)
+
+  counts :
+      (before after : List Entry) (a : Accounts) (f : Filing) → keyOf f ≡ k → f .family ≡ family → NoneOf after k family
+      → feedAll a (before ++ acceptedFiling f ∷ after) .last k family ≡ partFor f
+  unfolding feedAll
+  counts [] after a f p q n = leaves-all after (feed a (acceptedFiling f)) n ∙ sets a f p q
+  counts (e ∷ before) after a f p q n = counts before after (feed a e) f p q n
+
+pub counts-last : (es : List Entry) (k : Key) (family : ℕ) → CountsLast es k family
+unfolding accountsOf
+counts-last es k family =
+    record {
+      last = λ before after f e p q n. rw e (counts k family before after zeroAccounts f p q n);
+      none = λ n. leaves-all k family es zeroAccounts n;
+    }

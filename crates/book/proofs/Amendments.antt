@@ -10,6 +10,7 @@ use lib.ListN.{getD, set as store, length, take}
 use lib.Seq.{getD-set-same, set-getD, set-set}
 use lib.IntN.{ℤ}
 use Rattle.figuring.proofs.BoolLaws.{both}
+use Rattle.book.specs.Filings.{withAmends}
 use Rattle.book.specs.Sizes.{families}
 use Rattle.book.specs.Ledger.{cell, marked, withMark}
 use Rattle.book.specs.Soundness.{sound}
@@ -19,7 +20,7 @@ use Rattle.book.specs.Rules.{posted, done, outcome, table, headRows, own
 use Rattle.book.specs.Demand3.{isAccepted}
 use Rattle.book.specs.Companions.{Sized}
 use Rattle.book.specs.FilingOrder.{Family, familyOf}
-use Rattle.book.specs.Amendments.{withAmends, replaced, Amended, inPlaceOf9, StandsInPlaceOf9, LastCounts}
+use Rattle.book.specs.Amendments.{replaced, Amended, inPlaceOf9, StandsInPlaceOf9, LastCounts}
 use Rattle.book.specs.declared.ledger.Book.{Book}
 use Rattle.book.specs.declared.kinds.Call.{Call}
 use Rattle.book.specs.declared.kinds.Filing.{Filing}

@@ -12,9 +12,9 @@ use Rattle.figuring.specs.Years.{firstYear, lastYear}
 use Rattle.book.specs.Sizes.{makers, sets, cells, families, places, allParts}
 use Rattle.book.specs.Below.{sumBelowℤ}
 use Rattle.book.specs.Ledger.{Key, key, In, cell, figureAt, lower, raise, partAt, cellSum}
-use Rattle.book.specs.Postings.{netted}
-use Rattle.book.specs.Accounts.{Accounts, bought, sold, applied, retired, covered}
-use Rattle.book.specs.Accounts.{sameKey, only, put, inYear}
+use Rattle.book.specs.Postings.{netted, moved}
+use Rattle.book.specs.Accounts.{Accounts, Column, bought, sold, applied, retired, covered}
+use Rattle.book.specs.Accounts.{sameKey, only, put, inYear, withMg}
 use Rattle.book.specs.Demand3.{Reconciled}
 use Rattle.book.specs.declared.ledger.Book.{Book}
 use Rattle.book.proofs.LedgerLaws.{at-raise, at-lower, length-raise, length-lower, netted-length, netted-in, netted-out, same-cell, other-year, part-stored, no-part}
@@ -121,6 +121,14 @@ pub record Agree (b : Book) (a : Accounts) : Type 0 where
       Tied (b .«open_year») (b .lots) (a .earned) (a .mg bought)
       (λ k. a .mg sold k + a .mg applied k + a .mg retired k)
   pub shortages : Tied (b .«open_year») (b .shortages) (a .shortfall) (λ k. 0) (a .mg covered)
+
+-- a call that moves Mg leaves the parts and what was netted
+pub agree-moved :
+    {b : Book} {a : Accounts} {l s : List ℕ} (g : Column → Key → ℕ) → Agree b a
+    → Tied (b .«open_year») l (a .earned) (g bought) (λ k. g sold k + g applied k + g retired k)
+    → Tied (b .«open_year») s (a .shortfall) (λ k. 0) (g covered)
+    → Agree (moved b l s) (withMg a g)
+agree-moved g h lots shortages = record { families = h .families; lots = lots; shortages = shortages }
 
 pub agree-reconciled : (b : Book) (a : Accounts) → Agree b a → (k : Key) → In k → Reconciled b a k
 agree-reconciled b a h k i =

@@ -6,9 +6,9 @@ use mathlib.Core.Path.{_≡_, refl, sym, _∙_, ap}
 use borrow.Author.Tests.{eqb-true, eq-eqb}
 use lib.Dec.{eqb}
 use Rattle.book.specs.Ledger.{Key}
-use Rattle.book.specs.Postings.{partFor}
+use Rattle.book.specs.Postings.{partFor, filingKey}
 use Rattle.book.specs.Accounts.{Accounts, Entry, zeroAccounts, sameKey, move, whenAccepted, feed, feedAll, accountsOf}
-use Rattle.book.specs.Amendments.{keyOf, acceptedFiling, NoneOf, CountsLast}
+use Rattle.book.specs.Amendments.{acceptedFiling, NoneOf, CountsLast}
 use Rattle.book.specs.declared.kinds.Call.{Call}
 use Rattle.book.specs.declared.kinds.Filing.{Filing}
 use Rattle.book.proofs.LedgerLaws.{same-true}
@@ -22,15 +22,15 @@ module _ (k : Key) (family : ℕ) where
   -- a call that is no accepted filing or amendment of the family leaves its part
   leaves :
       (a : Accounts) (c : Call) (accepted : Bool)
-      → ((f : Filing) → c ≡ Call.File f → accepted ≡ true → keyOf f ≡ k → f .family ≡ family → ⊥)
+      → ((f : Filing) → c ≡ Call.File f → accepted ≡ true → filingKey f ≡ k → f .family ≡ family → ⊥)
       → whenAccepted accepted (move a c) a .last k family ≡ a .last k family
   leaves a c false n = refl
-  leaves a (Call.File f) true n = go (sameKey (keyOf f) k) (eqb (f .family) family) refl refl
+  leaves a (Call.File f) true n = go (sameKey (filingKey f) k) (eqb (f .family) family) refl refl
     where
       go :
-          (s t : Bool) → sameKey (keyOf f) k ≡ s → eqb (f .family) family ≡ t
+          (s t : Bool) → sameKey (filingKey f) k ≡ s → eqb (f .family) family ≡ t
           → cond (s && t) (partFor f) (a .last k family) ≡ a .last k family
-      go true true p q = absurd (n f refl refl (same-true (keyOf f) k p) (eqb-true (f .family) family q))
+      go true true p q = absurd (n f refl refl (same-true (filingKey f) k p) (eqb-true (f .family) family q))
       go true false p q = refl
       go false t p q = refl
   leaves a (Call.Close y) true n = refl
@@ -48,12 +48,12 @@ module _ (k : Key) (family : ℕ) where
       n f (record { before = []; after = es; here = ap (λ (x : Entry). x ∷ es) (sym q) }))
 
   -- one that is sets it
-  sets : (a : Accounts) (f : Filing) → keyOf f ≡ k → f .family ≡ family → feed a (acceptedFiling f) .last k family ≡ partFor f
+  sets : (a : Accounts) (f : Filing) → filingKey f ≡ k → f .family ≡ family → feed a (acceptedFiling f) .last k family ≡ partFor f
   unfolding feed
   sets a f p q = rw (p, q, same-self k, eq-eqb family family refl)
 
   counts :
-      (before after : List Entry) (a : Accounts) (f : Filing) → keyOf f ≡ k → f .family ≡ family → NoneOf after k family
+      (before after : List Entry) (a : Accounts) (f : Filing) → filingKey f ≡ k → f .family ≡ family → NoneOf after k family
       → feedAll a (before ++ acceptedFiling f ∷ after) .last k family ≡ partFor f
   unfolding feedAll
   counts [] after a f p q n = leaves-all after (feed a (acceptedFiling f)) n ∙ sets a f p q

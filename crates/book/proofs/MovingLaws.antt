@@ -24,7 +24,7 @@ use Rattle.book.proofs.LedgerLaws.{at-lower, at-raise, length-lower, le
 use Rattle.book.proofs.MoveFacts.{Tradable, Applicable, Retirable}
 use Rattle.book.proofs.SoundnessLaws.{Sound}
 use Rattle.book.proofs.TotalLaws.{totalOf, total-lower, total-raise, other-vintage, any-maker}
-use Rattle.book.proofs.Balances.{Agree, tied-as, tied-out, tied-in}
+use Rattle.book.proofs.Balances.{Agree, agree-moved, tied-as, tied-out, tied-in}
 use Rattle.book.proofs.Lawful.{Lawful}
 
 -- ---- what moving figures must not do
@@ -90,11 +90,8 @@ trade-agrees :
 unfolding tradeDone only
 trade-agrees b a t h g =
     let paid = tied-out (h .lots) (sellerLot t) (t .mg) (g .seller .lot) (g .seller .enough) in
-    record {
-      families = h .families;
-      lots = tied-as (tied-in paid (buyerLot t) (t .mg) (g .buyer)) _ _ (λ k. omega arith) (λ k. omega arith);
-      shortages = tied-as (h .shortages) _ _ (λ k. omega arith) (λ k. omega arith);
-    }
+    agree-moved _ h (tied-as (tied-in paid (buyerLot t) (t .mg) (g .buyer)) _ _ (λ k. omega arith) (λ k. omega arith))
+    (tied-as (h .shortages) _ _ (λ k. omega arith) (λ k. omega arith))
 
 pub trade-lawful : (b : Book) (t : Trade) → Tradable b t → Lawful b (Call.Trade t)
 unfolding done tradeDone isAccepted
@@ -132,11 +129,8 @@ unfolding applicationDone only
 apply-agrees b a p h g =
     let paid = tied-out (h .lots) (appliedLot p) (p .mg) (g .payer .lot) (g .payer .enough) in
     let less = tied-out (h .shortages) (coveredShortage p) (p .mg) (g .covered) (g .enough) in
-    record {
-      families = h .families;
-      lots = tied-as paid _ _ (λ k. omega arith) (λ k. omega arith);
-      shortages = tied-as less _ _ (λ k. omega arith) (λ k. omega arith);
-    }
+    agree-moved _ h (tied-as paid _ _ (λ k. omega arith) (λ k. omega arith))
+    (tied-as less _ _ (λ k. omega arith) (λ k. omega arith))
 
 pub apply-lawful : (b : Book) (p : Application) → Applicable b p → Lawful b (Call.Apply p)
 unfolding done applicationDone isAccepted
@@ -172,11 +166,8 @@ retire-agrees :
 unfolding retirementDone only
 retire-agrees b a p h g =
     let paid = tied-out (h .lots) (retiredLot p) (p .mg) (g .payer .lot) (g .payer .enough) in
-    record {
-      families = h .families;
-      lots = tied-as paid _ _ (λ k. omega arith) (λ k. omega arith);
-      shortages = tied-as (h .shortages) _ _ (λ k. omega arith) (λ k. omega arith);
-    }
+    agree-moved _ h (tied-as paid _ _ (λ k. omega arith) (λ k. omega arith))
+    (tied-as (h .shortages) _ _ (λ k. omega arith) (λ k. omega arith))
 
 pub retire-lawful : (b : Book) (p : Retirement) → Retirable b p → Lawful b (Call.Retire p)
 unfolding done retirementDone isAccepted

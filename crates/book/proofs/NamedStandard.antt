@@ -12,7 +12,8 @@ use Rattle.book.specs.Refusals.{firstRefusal, refusalIn, valuesIn, resul
 use Rattle.book.specs.Postings.{partFor, stored}
 use Rattle.book.specs.Rules.{posted, table, headRows, ownRows, fileRows, done, outcome}
 use Rattle.book.specs.Demand3.{isAccepted}
-use Rattle.book.specs.Editions.{UnderNamed, Reaches6, SixThenSeventeen, ElseTheSame, withEdition}
+use Rattle.book.specs.Editions.{UnderNamed, Reaches6, SixThenSeventeen, ElseTheSame}
+use Rattle.book.specs.Filings.{withEdition}
 use Rattle.book.specs.declared.ledger.Book.{Book}
 use Rattle.book.specs.declared.kinds.Call.{Call}
 use Rattle.book.specs.declared.kinds.Filing.{Filing}
@@ -54,7 +55,7 @@ six-then-seventeen b f h =
 -- An edition that 17 lets pass: the rows read no more of it, so the verdict is that with edition 0.
 module _ (b : Book) (f : Filing) (n : noEdition (f .edition) (f .set) (f .year) ≡ false) where
   abbrev ordinary : Call
-  ordinary = Call.File (withEdition f 0)
+  ordinary = Call.File (withEdition 0 f)
 
   same-verdict : firstRefusal (table b (Call.File f)) ≡ firstRefusal (table b ordinary)
   unfolding table ownRows fileRows

@@ -9,8 +9,8 @@ use Rattle.figuring.specs.Units.{engineUnit}
 use Rattle.figuring.specs.Netting.{netOf, earnedOf, shortfallOf}
 use Rattle.book.specs.Sizes.{families}
 use Rattle.book.specs.Below.{sumBelowℤ}
-use Rattle.book.specs.Ledger.{Key, key}
-use Rattle.book.specs.Postings.{partFor, sellerLot, buyerLot, appliedLot, coveredShortage, retiredLot}
+use Rattle.book.specs.Ledger.{Key}
+use Rattle.book.specs.Postings.{partFor, filingKey, sellerLot, buyerLot, appliedLot, coveredShortage, retiredLot}
 use Rattle.book.specs.declared.kinds.Call.{Call}
 
 -- a call's arguments, and whether it was accepted: "answered without" a refusal
@@ -86,7 +86,7 @@ abbrev pub move : Accounts → Call → Accounts
 -- amendments the last: "a family counts with its last accepted figures of that year"
 move a (Call.File f) =
     record {
-      last = put (key (f .maker) (f .set) (f .year)) (f .family) (partFor f) (a .last);
+      last = put (filingKey f) (f .family) (partFor f) (a .last);
       earned = a .earned;
       shortfall = a .shortfall;
       mg = a .mg;

@@ -1,5 +1,5 @@
 -- Card 6, "Amended level": an amendment is a filing whose `amends` is set. Rules, Postings and Accounts have it; here the
--- card's words stand by themselves, for any book. The proofs are in proofs/Amendments.antt.
+-- card's words stand by themselves, for any book. The proofs are in proofs/Amendments.antt and proofs/LastFigures.antt.
 use Prim.Native.Nat.{ℕ, _+_, _*_}
 use mathlib.Core.Bool.{Bool, true, false, cond}
 use mathlib.Core.List.{List, _∷_, _++_}
@@ -7,10 +7,11 @@ use mathlib.Core.Path.{_≡_}
 use lib.Dec.{eqb}
 use lib.ListN.{getD, set as store}
 use lib.IntN.{pos}
+use Rattle.book.specs.Filings.{withAmends}
 use Rattle.book.specs.Sizes.{families}
-use Rattle.book.specs.Ledger.{Key, key, filedIn}
+use Rattle.book.specs.Ledger.{Key, filedIn}
 use Rattle.book.specs.Refusals.{refusalIn}
-use Rattle.book.specs.Postings.{partFor, filingCell, withFamilies}
+use Rattle.book.specs.Postings.{partFor, filingCell, filingKey, withFamilies}
 use Rattle.book.specs.Rules.{posted}
 use Rattle.book.specs.Accounts.{Entry, accountsOf}
 use Rattle.book.specs.Demand3.{isAccepted}
@@ -23,23 +24,7 @@ use Rattle.book.specs.declared.kinds.Filing.{Filing}
 use Rattle.book.specs.declared.answers.Answer.{Answer}
 use Rattle.book.specs.declared.answers.Posted.{Posted}
 
--- the same fields, as an amendment or as a filing
-abbrev pub withAmends : Bool → Filing → Filing
-withAmends amends f =
-    record {
-      amends = amends;
-      maker = f .maker;
-      set = f .set;
-      year = f .year;
-      «vehicle_use» = f .«vehicle_use»;
-      edition = f .edition;
-      family = f .family;
-      fcl = f .fcl;
-      cf = f .cf;
-      volume = f .volume;
-      life = f .life;
-    }
-
+-- the same fields, put to a book as a filing and as an amendment
 abbrev pub filed : Book → Filing → Posted
 filed b f = posted b (Call.File (withAmends false f))
 
@@ -76,32 +61,32 @@ StandsInPlaceOf9 b f = refusalIn (amended b f .answer) ≡ inPlaceOf9 (refusalIn
 -- In the book: after an accepted filing or amendment f, an amendment g of the same family is answered as it would be in
 -- f's place, and leaves the book that it would leave there. So of a filing and any number of amendments the last counts,
 -- as if it alone had been filed.
-pub record InItsPlace (b : Book) (f g : Filing) : Type 0 where
-  pub answer :
-      amended (posted b (Call.File f) .book) g .answer ≡ posted b (Call.File (withAmends (f .amends) g)) .answer
-  pub book :
-      isAccepted (posted b (Call.File (withAmends (f .amends) g)) .answer) ≡ true
-      → amended (posted b (Call.File f) .book) g .book ≡ posted b (Call.File (withAmends (f .amends) g)) .book
+abbrev pub afterIt : Book → Filing → Filing → Posted
+afterIt b f g = amended (posted b (Call.File f) .book) g
+
+abbrev pub inItsPlace : Book → Filing → Filing → Posted
+inItsPlace b f g = posted b (Call.File (withAmends (f .amends) g))
+
+pub record AsInItsPlace (b : Book) (f g : Filing) : Type 0 where
+  pub answer : afterIt b f g .answer ≡ inItsPlace b f g .answer
+  pub book : isAccepted (inItsPlace b f g .answer) ≡ true → afterIt b f g .book ≡ inItsPlace b f g .book
 
 abbrev pub LastCounts : Book → Filing → Filing → Type 0
 LastCounts b f g =
-    Sized b → isAccepted (posted b (Call.File f) .answer) ≡ true → familyOf f ≡ familyOf g → InItsPlace b f g
+    Sized b → isAccepted (posted b (Call.File f) .answer) ≡ true → familyOf f ≡ familyOf g → AsInItsPlace b f g
 
 -- In the accounts: the part of a family of a year is that of the last accepted filing or amendment of it, and 0 where
 -- there is none.
-abbrev pub keyOf : Filing → Key
-keyOf f = key (f .maker) (f .set) (f .year)
-
 abbrev pub acceptedFiling : Filing → Entry
 acceptedFiling f = record { call = Call.File f; accepted = true }
 
 -- no entry of a history is an accepted filing or amendment of the family
 abbrev pub NoneOf : List Entry → Key → ℕ → Type 0
-NoneOf es k family = (f : Filing) → Among (acceptedFiling f) es → keyOf f ≡ k → f .family ≡ family → ⊥
+NoneOf es k family = (f : Filing) → Among (acceptedFiling f) es → filingKey f ≡ k → f .family ≡ family → ⊥
 
 pub record CountsLast (es : List Entry) (k : Key) (family : ℕ) : Type 0 where
   pub last :
       (before after : List Entry) (f : Filing)
-      → es ≡ before ++ acceptedFiling f ∷ after → keyOf f ≡ k → f .family ≡ family → NoneOf after k family
+      → es ≡ before ++ acceptedFiling f ∷ after → filingKey f ≡ k → f .family ≡ family → NoneOf after k family
       → accountsOf es .last k family ≡ partFor f
   pub none : NoneOf es k family → accountsOf es .last k family ≡ pos 0

@@ -7,6 +7,7 @@ use Rattle.figuring.specs.Standards.{standardFor, isAbsent}
 use Rattle.figuring.specs.Editions.{standardUnder, noEdition}
 use Rattle.figuring.specs.Parts.{partOf}
 use Rattle.figuring.specs.declared.standards.Standard.the-variants.{Given}
+use Rattle.book.specs.Filings.{withEdition}
 use Rattle.book.specs.Sizes.{makers, sets, allClosed}
 use Rattle.book.specs.Soundness.{sound}
 use Rattle.book.specs.Refusals.{refusalIn, resultIn}
@@ -47,29 +48,12 @@ pub record SixThenSeventeen (b : Book) (f : Filing) : Type 0 where
       isAbsent (standardFor (f .set) (f .«vehicle_use») (f .year)) ≡ false
       → noEdition (f .edition) (f .set) (f .year) ≡ true → refusalIn (posted b (Call.File f) .answer) ≡ 17
 
--- a filing with another edition, and all else as it is
-abbrev pub withEdition : Filing → ℕ → Filing
-withEdition f edition =
-    record {
-      amends = f .amends;
-      maker = f .maker;
-      set = f .set;
-      year = f .year;
-      «vehicle_use» = f .«vehicle_use»;
-      edition = edition;
-      family = f .family;
-      fcl = f .fcl;
-      cf = f .cf;
-      volume = f .volume;
-      life = f .life;
-    }
-
 -- An edition that 17 lets pass changes nothing but the part: a filing gets the refusal, or none, and the count that it
 -- gets with edition 0.
 pub record PartAlone (b : Book) (f : Filing) : Type 0 where
   pub refusal :
-      refusalIn (posted b (Call.File f) .answer) ≡ refusalIn (posted b (Call.File (withEdition f 0)) .answer)
-  pub count : resultIn (posted b (Call.File f) .answer) 1 ≡ resultIn (posted b (Call.File (withEdition f 0)) .answer) 1
+      refusalIn (posted b (Call.File f) .answer) ≡ refusalIn (posted b (Call.File (withEdition 0 f)) .answer)
+  pub count : resultIn (posted b (Call.File f) .answer) 1 ≡ resultIn (posted b (Call.File (withEdition 0 f)) .answer) 1
 
 abbrev pub ElseTheSame : Book → Filing → Type 0
 ElseTheSame b f = noEdition (f .edition) (f .set) (f .year) ≡ false → PartAlone b f

@@ -10,6 +10,7 @@ use lib.Dec.{leb}
 use lib.IntN.{ℤ, pos, natAbs}
 use lib.ListN.{getD}
 use Rattle.figuring.specs.FiveDecimals.{oldCf, oldUnit, oldPartMost, restatedCf, restatedPart}
+use Rattle.book.specs.Filings.{withCf}
 use Rattle.book.specs.Sizes.{allParts}
 use Rattle.book.specs.Below.{allBelow}
 use Rattle.book.specs.Ledger.{marked}
@@ -30,26 +31,9 @@ pub record SoundParts : Type 0 where
       (mark family : ℕ) (z : ℤ)
       → marked mark family ≡ true → partSound mark family z ≡ leb (natAbs z) 38400000000000000
 
--- a filing with another CF, and all else as it is
-abbrev pub withCf : Filing → ℕ → Filing
-withCf f cf =
-    record {
-      amends = f .amends;
-      maker = f .maker;
-      set = f .set;
-      year = f .year;
-      «vehicle_use» = f .«vehicle_use»;
-      edition = f .edition;
-      family = f .family;
-      fcl = f .fcl;
-      cf = cf;
-      volume = f .volume;
-      life = f .life;
-    }
-
 -- a call in which a filing's CF is what g makes of it
 abbrev pub onCf : (ℕ → ℕ) → Call → Call
-onCf g (Call.File f) = Call.File (withCf f (g (f .cf)))
+onCf g (Call.File f) = Call.File (withCf (g (f .cf)) f)
 onCf g (Call.Close y) = Call.Close y
 onCf g (Call.Trade t) = Call.Trade t
 onCf g (Call.Apply p) = Call.Apply p

@@ -1,4 +1,5 @@
 pub mod Sizes
+pub mod Filings
 pub mod Below
 pub mod Ledger
 pub mod Soundness

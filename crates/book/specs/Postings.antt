@@ -52,6 +52,9 @@ partFor f =
 abbrev pub filingCell : Filing → ℕ
 filingCell f = cell (f .maker) (f .set)
 
+abbrev pub filingKey : Filing → Key
+filingKey f = key (f .maker) (f .set) (f .year)
+
 -- the book with these marks and parts: what a filing writes, and all else as it was
 abbrev pub withFamilies : Book → List ℕ → List ℤ → Book
 withFamilies b m p =

@@ -25,7 +25,7 @@ numberOf UnsoundBook = 2
 numberOf UnknownMaker = 3
 -- The set is above 3.
 numberOf UnknownSet = 4
--- The year filed or closed isn't the open year, or the open year is 2038.
+-- The year filed, or amended (card 6), or closed isn't the open year, or the open year is 2038.
 numberOf YearNotOpen = 5
 -- There is no standard for this set, use and year.
 numberOf NoStandard = 6

@@ -1,9 +1,9 @@
 // The claims of the book layer, each a function whose contract is the statement of specs/ for all its arguments. A
 // theorem that goes missing, or is proved of less, leaves its function here unproved, so the gate holds it.
+ghost use Prim.Native.Nat.{ℕ};
 ghost use mathlib.Core.Bool.{true};
 ghost use mathlib.Core.List.{List};
 ghost use mathlib.Core.Path.{_≡_};
-ghost use Prim.Native.Nat.{ℕ};
 ghost use Rattle.book.specs.Ledger.{Key, In};
 ghost use Rattle.book.specs.Rules.{CheckingOrder};
 ghost use Rattle.book.specs.Accounts.{Entry};

@@ -1,12 +1,12 @@
 // File: sets a family's mark and part in the open year. An amendment is a filing of a family that is filed: its mark
 // stays, and its part is replaced.
+ghost use mathlib.Core.List.{[], _∷_};
 ghost use mathlib.Core.Path.{_≡_};
 ghost use Rattle.figuring.specs.Parts.{familyPart};
 ghost use Rattle.figuring.specs.Standards.{gramsOf};
 ghost use Rattle.figuring.specs.Editions.{standardUnder};
 ghost use Rattle.book.specs.Refusals.{firstRefusal};
 ghost use Rattle.book.specs.Rules.{posted, fileRows, filedRow};
-ghost use mathlib.Core.List.{[], _∷_};
 ghost use Rattle.book.specs.declared.kinds.Call.{Call};
 use crate::answers::Answer;
 use crate::answers::Posted;

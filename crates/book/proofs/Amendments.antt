@@ -6,7 +6,7 @@ use mathlib.Core.Path.{_≡_, refl, sym, _∙_, ap, subst}
 use native.Mathlib.Omega.{arith}
 use borrow.Author.Tests.{not-true}
 use lib.Dec.{eqb}
-use lib.ListN.{getD, set as store, length, take}
+use lib.ListN.{getD, set as store, length}
 use lib.Seq.{getD-set-same, set-getD, set-set}
 use lib.IntN.{ℤ}
 use Rattle.figuring.proofs.BoolLaws.{both}
@@ -16,7 +16,7 @@ use Rattle.book.specs.Ledger.{cell, marked, withMark}
 use Rattle.book.specs.Soundness.{sound}
 use Rattle.book.specs.Refusals.{Row, orElse, firstRefusal, numberOf, refusalIn}
 use Rattle.book.specs.Postings.{partFor, filingCell, stored}
-use Rattle.book.specs.Rules.{posted, done, outcome, table, headRows, ownRows, fileRows, filedRow}
+use Rattle.book.specs.Rules.{posted, done, outcome, table, headRows, ownRows, figureRows, fileRows, filedRow}
 use Rattle.book.specs.Demand3.{isAccepted}
 use Rattle.book.specs.Companions.{Sized}
 use Rattle.book.specs.FilingOrder.{Family, familyOf}
@@ -87,7 +87,7 @@ module _ (isFiled : Bool) where
 
 -- the rows before the last, which read neither the marks nor whether the call amends
 abbrev rowsBefore : Book → Filing → List Row
-rowsBefore b f = headRows (sound b) ++ take 8 (fileRows (b .«open_year») [] f)
+rowsBefore b f = headRows (sound b) ++ figureRows (b .«open_year») f
 
 abbrev isFiledIn : Book → Filing → Bool
 isFiledIn b f = marked (getD (b .marks) (filingCell f) 0) (f .family)
@@ -166,7 +166,7 @@ module _ (b : Book) (f g : Filing) (z : Sized b) (h : Fileable b f) (same : fami
       verdict-is after (withAmends true g)
       (mark-here b (filingCell f) (f .family) (partFor f) z (omega (arith, h .maker, h .set)) (h .family)
       (filingCell g) (g .family) (same-cell, same-number))
-      ∙ ap (λ (s : Bool). firstRefusal (headRows s ++ take 8 (fileRows (b .«open_year») [] g))) sound-after
+      ∙ ap (λ (s : Bool). firstRefusal (headRows s ++ figureRows (b .«open_year») g)) sound-after
       ∙ sym (verdict-is b there (rw (same-cell, same-number) (h .mark)))
 
   same-done : done after (Call.File (withAmends true g)) ≡ done b (Call.File there)

@@ -38,6 +38,7 @@ columnNumber covered = 4
 -- sold, applied, retired and covered. All are exact whole numbers without bound and start at zero." Kept here for any
 -- key: Demand3 speaks of those of the book. Since card 6 the sum is that of a part for each family number.
 pub record Accounts : Type 0 where
+  -- the part of a family, as it was last accepted
   pub last : Key → ℕ → ℤ
   pub earned : Key → ℕ
   pub shortfall : Key → ℕ

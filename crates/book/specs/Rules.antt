@@ -1,7 +1,6 @@
 -- What a call gives, for any book and any call: the head of the refusals, then the call's own, each in the order of
--- document 01's "Refusal list", with card 5's 17 after 6 and card 6's 18 in the place of 9; then
--- the outcome. `CheckingOrder` has the tables by the papers'
--- numbers.
+-- document 01's "Refusal list", with card 5's 17 after 6 and card 6's 18 in the place of 9; then the outcome.
+-- `CheckingOrder` has the tables by the papers' numbers.
 -- "A call skips the entries that don't concern it." Entries 3 (in a trade), 5 and 14 are two tests, so two rows.
 use Prim.Native.Nat.{ℕ}
 use mathlib.Core.Bool.{Bool, true, false, not}
@@ -41,14 +40,9 @@ headRows isSound = (not isSound ⇒ UnsoundBook) ∷ []
 
 -- ---- each call's own rows, over what they read of the book and no more: Y is the open year
 
--- 9 of a filing; of an amendment 18, which "stands in place of 9"
-abbrev pub filedRow : Bool → Bool → Row
-filedRow false isFiled = isFiled ⇒ AlreadyFiled
-filedRow true isFiled = not isFiled ⇒ NotFiled
-
--- a filing's, and an amendment's
-unfoldable pub fileRows : ℕ → List ℕ → Filing → List Row
-fileRows Y marks f =
+-- what a filing and an amendment are asked alike: of the book these read the open year alone
+abbrev pub figureRows : ℕ → Filing → List Row
+figureRows Y f =
     (leb makers (f .maker) ⇒ UnknownMaker)
     ∷ (leb sets (f .set) ⇒ UnknownSet)
     ∷ (not (eqb (f .year) Y) ⇒ YearNotOpen)
@@ -57,8 +51,15 @@ fileRows Y marks f =
     ∷ (noEdition (f .edition) (f .set) (f .year) ⇒ NoEdition)
     ∷ (leb families (f .family) ⇒ UnknownFamily)
     ∷ (not (withinLimits (f .fcl) (f .cf) (f .volume) (f .life)) ⇒ OutOfLimits)
-    ∷ filedRow (f .amends) (marked (getD marks (filingCell f) 0) (f .family))
     ∷ []
+
+-- then 9 of a filing; of an amendment 18, which "stands in place of 9"
+abbrev pub filedRow : Bool → Bool → Row
+filedRow false isFiled = isFiled ⇒ AlreadyFiled
+filedRow true isFiled = not isFiled ⇒ NotFiled
+
+unfoldable pub fileRows : ℕ → List ℕ → Filing → List Row
+fileRows Y marks f = figureRows Y f ++ filedRow (f .amends) (marked (getD marks (filingCell f) 0) (f .family)) ∷ []
 
 unfoldable pub closeRows : ℕ → ℕ → List Row
 closeRows Y y = (not (eqb y Y) ⇒ YearNotOpen) ∷ (eqb Y allClosed ⇒ YearNotOpen) ∷ []

@@ -57,7 +57,8 @@ pub record IsText (s : List ℕ) (c : Call) : Type 0 where
   pub short : length s ≤ longestLine
   pub small : Small mostDigits (figuresIn c)
 
--- A filing or an amendment that some book accepts, so one with every figure within its limits, can be typed: its text is short enough.
+-- A filing or an amendment that some book accepts, so one with every figure within its limits, can be typed: its text is
+-- short enough.
 abbrev pub CanBeTyped : Book → Filing → Type 0
 CanBeTyped b f = isAccepted (posted b (Call.File f) .answer) ≡ true → IsText (rendered (Call.File f)) (Call.File f)
 

@@ -1,10 +1,10 @@
 -- Card 6: what an accepted amendment replaces, which amendments are accepted, and that in the book the last one counts.
 use Prim.Native.Nat.{ℕ, _+_, _*_, _<_}
-use mathlib.Core.Bool.{Bool, true, false, not, _&&_, true≢false}
+use mathlib.Core.Bool.{Bool, true, false, not, true≢false}
 use mathlib.Core.List.{List, [], _∷_, _++_}
 use mathlib.Core.Path.{_≡_, refl, sym, _∙_, ap, subst}
 use native.Mathlib.Omega.{arith}
-use borrow.Author.Tests.{not-true}
+use borrow.Author.Tests.{ne-eqb, not-true}
 use lib.Dec.{eqb}
 use lib.ListN.{getD, set as store, length}
 use lib.Seq.{getD-set-same, set-getD, set-set}
@@ -12,14 +12,14 @@ use lib.IntN.{ℤ}
 use Rattle.figuring.proofs.BoolLaws.{both}
 use Rattle.book.specs.Filings.{withAmends}
 use Rattle.book.specs.Sizes.{families}
-use Rattle.book.specs.Ledger.{cell, marked, withMark}
+use Rattle.book.specs.Ledger.{cell, withMark}
 use Rattle.book.specs.Soundness.{sound}
 use Rattle.book.specs.Refusals.{Row, orElse, firstRefusal, numberOf, refusalIn}
 use Rattle.book.specs.Postings.{partFor, filingCell, stored}
 use Rattle.book.specs.Rules.{posted, done, outcome, table, headRows, ownRows, figureRows, fileRows, filedRow}
 use Rattle.book.specs.Demand3.{isAccepted}
 use Rattle.book.specs.Companions.{Sized}
-use Rattle.book.specs.FilingOrder.{Family, familyOf}
+use Rattle.book.specs.FilingOrder.{Family, familyOf, isFiled}
 use Rattle.book.specs.Amendments.{replaced, Amended, inPlaceOf9, StandsInPlaceOf9, LastCounts}
 use Rattle.book.specs.declared.ledger.Book.{Book}
 use Rattle.book.specs.declared.kinds.Call.{Call}
@@ -27,10 +27,11 @@ use Rattle.book.specs.declared.kinds.Filing.{Filing}
 use Rattle.book.specs.declared.answers.Posted.{Posted}
 use Rattle.book.specs.declared.answers.Verdict.{Verdict}
 use Rattle.book.specs.declared.answers.Verdict.the-variants.{Accepted, Refuse}
-use Rattle.book.proofs.TableLaws.{by-verdict}
+use Rattle.book.proofs.TableLaws.{alike, same-after, by-verdict}
+use Rattle.book.proofs.CallLaws.{noneGives}
+use Rattle.book.proofs.RefusalLaws.{number-above-0}
 use Rattle.book.proofs.FileFacts.{Fileable, fileable}
-use Rattle.book.proofs.FilingLaws.{mark-here, file-lawful}
-use Rattle.book.proofs.SoundnessLaws.{is-sound}
+use Rattle.book.proofs.FilingLaws.{mark-here, still-sound}
 use Rattle.book.proofs.MarkLaws.{marked-same, mark-kept}
 
 -- ---- what an accepted amendment replaces
@@ -51,50 +52,30 @@ abbrev numbered : Verdict → ℕ
 numbered Accepted = 0
 numbered (Refuse r) = numberOf r
 
--- no row gives 0 or 9
-unfoldable other : List Row → Bool
-other [] = true
-other (x ∷ xs) = not (eqb (numberOf (x .why)) 0) && (not (eqb (numberOf (x .why)) 9) && other xs)
+-- 18 or none in the place of none or 9, after rows that give neither; none gives 0
+in-place :
+    (isFiled : Bool) (xs : List Row) → noneGives 9 xs ≡ true
+    → numbered (firstRefusal (xs ++ filedRow true isFiled ∷ []))
+    ≡ inPlaceOf9 (numbered (firstRefusal (xs ++ filedRow false isFiled ∷ [])))
+in-place true [] e = refl
+in-place false [] e = refl
+in-place isFiled (x ∷ xs) e = go (x .test) (in-place isFiled xs (w .1))
+  where
+    w : (not (eqb (numberOf (x .why)) 9) ≡ true) × (noneGives 9 xs ≡ true)
+    w = both (not (eqb (numberOf (x .why)) 9)) (noneGives 9 xs) e
 
--- 18 or none in the place of none or 9, after rows that give neither
-module _ (isFiled : Bool) where
-  last-row : numbered (firstRefusal (filedRow true isFiled ∷ [])) ≡ inPlaceOf9 (numbered (firstRefusal (filedRow false isFiled ∷ [])))
-  last-row = go isFiled
-    where
-      go : (t : Bool) → numbered (firstRefusal (filedRow true t ∷ [])) ≡ inPlaceOf9 (numbered (firstRefusal (filedRow false t ∷ [])))
-      go true = refl
-      go false = refl
-
-  stands :
-      (xs : List Row) → other xs ≡ true
-      → numbered (firstRefusal (xs ++ filedRow true isFiled ∷ []))
-      ≡ inPlaceOf9 (numbered (firstRefusal (xs ++ filedRow false isFiled ∷ [])))
-  unfolding other
-  stands [] e = last-row
-  stands (x ∷ xs) e =
-      let p = both (not (eqb (numberOf (x .why)) 0)) (not (eqb (numberOf (x .why)) 9) && other xs) e in
-      let q = both (not (eqb (numberOf (x .why)) 9)) (other xs) (p .1) in
-      go (x .test) (not-true (eqb (numberOf (x .why)) 0) (p .0)) (not-true (eqb (numberOf (x .why)) 9) (q .0)) (stands xs (q .1))
-    where
-      go :
-          (t : Bool) → eqb (numberOf (x .why)) 0 ≡ false → eqb (numberOf (x .why)) 9 ≡ false
-          → numbered (firstRefusal (xs ++ filedRow true isFiled ∷ []))
-          ≡ inPlaceOf9 (numbered (firstRefusal (xs ++ filedRow false isFiled ∷ [])))
-          → numbered (orElse t (x .why) (firstRefusal (xs ++ filedRow true isFiled ∷ [])))
-          ≡ inPlaceOf9 (numbered (orElse t (x .why) (firstRefusal (xs ++ filedRow false isFiled ∷ []))))
-      go true n m ih = rw (n, m)
-      go false n m ih = ih
+    go :
+        (t : Bool)
+        → numbered (firstRefusal (xs ++ filedRow true isFiled ∷ []))
+        ≡ inPlaceOf9 (numbered (firstRefusal (xs ++ filedRow false isFiled ∷ [])))
+        → numbered (orElse t (x .why) (firstRefusal (xs ++ filedRow true isFiled ∷ [])))
+        ≡ inPlaceOf9 (numbered (orElse t (x .why) (firstRefusal (xs ++ filedRow false isFiled ∷ []))))
+    go true ih = rw (ne-eqb (numberOf (x .why)) 0 (λ z. omega (arith, number-above-0 (x .why))), not-true (eqb (numberOf (x .why)) 9) (w .0))
+    go false ih = ih
 
 -- the rows before the last, which read neither the marks nor whether the call amends
 abbrev rowsBefore : Book → Filing → List Row
 rowsBefore b f = headRows (sound b) ++ figureRows (b .«open_year») f
-
-abbrev isFiledIn : Book → Filing → Bool
-isFiledIn b f = marked (getD (b .marks) (filingCell f) 0) (f .family)
-
-rows-are : (b : Book) (f : Filing) → table b (Call.File f) ≡ rowsBefore b f ++ filedRow (f .amends) (isFiledIn b f) ∷ []
-unfolding table headRows ownRows fileRows
-rows-are b f = refl
 
 number-of : (b : Book) (f : Filing) → refusalIn (posted b (Call.File f) .answer) ≡ numbered (firstRefusal (table b (Call.File f)))
 unfolding posted done stored refusalIn
@@ -105,10 +86,10 @@ number-of b f = go (firstRefusal (table b (Call.File f)))
     go (Refuse r) = refl
 
 pub stands-in-place : (b : Book) (f : Filing) → StandsInPlaceOf9 b f
-unfolding table headRows ownRows fileRows other
+unfolding table headRows ownRows fileRows
 stands-in-place b f =
     number-of b (withAmends true f)
-    ∙ stands (isFiledIn b f) (rowsBefore b f) refl
+    ∙ in-place (isFiled b (familyOf f)) (rowsBefore b f) refl
     ∙ ap inPlaceOf9 (sym (number-of b (withAmends false f)))
 
 -- ---- the last one counts
@@ -124,20 +105,10 @@ stored-again b c f y z h =
     let p = set-set (b .parts) (c * families + f) y z in
     rw (m, k, s, p)
 
--- a last row that passes
-passing : (xs : List Row) (x : Row) → x .test ≡ false → firstRefusal (xs ++ x ∷ []) ≡ firstRefusal xs
-passing [] x e = rw e
-passing (y ∷ ys) x e = ap (orElse (y .test) (y .why)) (passing ys x e)
-
 -- a family that is filed as the call would have it
-as-asked : (amends isFiled : Bool) → isFiled ≡ amends → filedRow amends isFiled .test ≡ false
+as-asked : (amends isFiled : Bool) → isFiled ≡ amends → firstRefusal (filedRow amends isFiled ∷ []) ≡ Accepted
 as-asked true isFiled e = rw e
-as-asked false isFiled e = e
-
-verdict-is :
-    (b : Book) (f : Filing) → isFiledIn b f ≡ f .amends
-    → firstRefusal (table b (Call.File f)) ≡ firstRefusal (rowsBefore b f)
-verdict-is b f e = ap firstRefusal (rows-are b f) ∙ passing (rowsBefore b f) _ (as-asked (f .amends) (isFiledIn b f) e)
+as-asked false isFiled e = rw e
 
 -- one answer, and where it accepts one book
 abbrev SameAs : Posted → Posted → Type 0
@@ -157,17 +128,22 @@ module _ (b : Book) (f g : Filing) (z : Sized b) (h : Fileable b f) (same : fami
   same-number : g .family ≡ f .family
   same-number = ap (λ (k : Family). k .number) (sym same)
 
-  sound-after : sound after ≡ sound b
-  sound-after = is-sound after (file-lawful b f h .sound z) ∙ sym (h .sound)
+  -- its family is filed after f, and before it was if f amends
+  filed-after : isFiled after (familyOf g) ≡ true
+  unfolding done stored
+  filed-after =
+      mark-here b (filingCell f) (f .family) (partFor f) z (omega (arith, h .maker, h .set)) (h .family)
+      (filingCell g) (g .family) (same-cell, same-number)
+
+  filed-before : isFiled b (familyOf g) ≡ f .amends
+  filed-before = rw (same-cell, same-number) (h .mark)
 
   same-verdict : firstRefusal (table after (Call.File (withAmends true g))) ≡ firstRefusal (table b (Call.File there))
-  unfolding done stored fileRows
+  unfolding done stored table headRows ownRows fileRows
   same-verdict =
-      verdict-is after (withAmends true g)
-      (mark-here b (filingCell f) (f .family) (partFor f) z (omega (arith, h .maker, h .set)) (h .family)
-      (filingCell g) (g .family) (same-cell, same-number))
-      ∙ ap (λ (s : Bool). firstRefusal (headRows s ++ figureRows (b .«open_year») g)) sound-after
-      ∙ sym (verdict-is b there (rw (same-cell, same-number) (h .mark)))
+      ap (λ (s : Bool). firstRefusal (headRows s ++ fileRows (b .«open_year») (after .marks) (withAmends true g))) (still-sound b f z h)
+      ∙ same-after (rowsBefore b g) (filedRow true (isFiled after (familyOf g)) ∷ []) (filedRow (f .amends) (isFiled b (familyOf g)) ∷ [])
+      (as-asked true (isFiled after (familyOf g)) filed-after ∙ sym (as-asked (f .amends) (isFiled b (familyOf g)) filed-before))
 
   same-done : done after (Call.File (withAmends true g)) ≡ done b (Call.File there)
   unfolding done partFor
@@ -175,18 +151,13 @@ module _ (b : Book) (f g : Filing) (z : Sized b) (h : Fileable b f) (same : fami
       rw (same-cell, same-number)
       (stored-again b (filingCell f) (f .family) (partFor f) (partFor g) (omega (arith, h .maker, h .set, z .marks)))
 
-  by-cases :
-      (v : Verdict)
-      → SameAs (outcome v after (done after (Call.File (withAmends true g)))) (outcome v b (done b (Call.File there)))
-  unfolding isAccepted
-  by-cases Accepted = (ap (λ (p : Posted). p .answer) same-done, λ a. ap (λ (p : Posted). p .book) same-done)
-  by-cases (Refuse r) = (refl, λ a. absurd (true≢false (sym a)))
-
   in-its-place : SameAs (posted after (Call.File (withAmends true g))) (posted b (Call.File there))
-  unfolding posted
+  unfolding posted isAccepted
   in-its-place =
       subst (λ (v : Verdict). SameAs (outcome v after (done after (Call.File (withAmends true g)))) (posted b (Call.File there)))
-      (sym same-verdict) (by-cases (firstRefusal (table b (Call.File there))))
+      (sym same-verdict)
+      (alike SameAs (firstRefusal (table b (Call.File there))) _ _ _ _ (λ r. (refl, λ a. absurd (true≢false (sym a))))
+      (ap (λ (p : Posted). p .answer) same-done, λ a. ap (λ (p : Posted). p .book) same-done))
 
 pub last-counts : (b : Book) (f g : Filing) → LastCounts b f g
 unfolding ownRows isAccepted

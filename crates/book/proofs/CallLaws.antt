@@ -1,4 +1,5 @@
 -- What is said call by call, each once: what an accepted call keeps, and that no row of its own gives refusal 2.
+use Prim.Native.Nat.{ℕ}
 use mathlib.Core.Bool.{Bool, true, false, not, _&&_}
 use mathlib.Core.List.{List, [], _∷_}
 use mathlib.Core.Path.{_≡_, refl}
@@ -28,17 +29,17 @@ lawful b (Call.Trade t) s e = trade-lawful b t (tradable b t s e)
 lawful b (Call.Apply p) s e = apply-lawful b p (applicable b p s e)
 lawful b (Call.Retire p) s e = retire-lawful b p (retirable b p s e)
 
--- no row gives 2, whatever the tests
-abbrev pub noTwo : List Row → Bool
-noTwo [] = true
-noTwo (x ∷ xs) = not (eqb (numberOf (x .why)) 2) && noTwo xs
+-- no row gives n, whatever the tests
+abbrev pub noneGives : ℕ → List Row → Bool
+noneGives n [] = true
+noneGives n (x ∷ xs) = not (eqb (numberOf (x .why)) n) && noneGives n xs
 
 -- 2 is the head's alone
-pub own-not-two : (b : Book) (c : Call) → noTwo (ownRows b c) ≡ true
+pub own-not-two : (b : Book) (c : Call) → noneGives 2 (ownRows b c) ≡ true
 unfolding ownRows fileRows closeRows tradeRows applyRows retireRows
 own-not-two b (Call.File f) = go (f .amends)
   where
-    go : (amends : Bool) → noTwo (filedRow amends (marked (getD (b .marks) (filingCell f) 0) (f .family)) ∷ []) ≡ true
+    go : (amends : Bool) → noneGives 2 (filedRow amends (marked (getD (b .marks) (filingCell f) 0) (f .family)) ∷ []) ≡ true
     go true = refl
     go false = refl
 own-not-two b (Call.Close y) = refl

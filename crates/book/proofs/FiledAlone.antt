@@ -25,11 +25,9 @@ use Rattle.book.specs.declared.kinds.Call.{Call}
 use Rattle.book.specs.declared.kinds.Filing.{Filing}
 use Rattle.book.specs.declared.answers.Answer.{Answer}
 use Rattle.book.specs.declared.answers.Verdict.{Verdict}
-use Rattle.book.specs.declared.answers.Verdict.the-variants.{Accepted, Refuse}
-use Rattle.book.proofs.TableLaws.{same-after, by-verdict}
-use Rattle.book.proofs.SoundnessLaws.{is-sound}
+use Rattle.book.proofs.TableLaws.{alike, same-after, by-verdict}
 use Rattle.book.proofs.FileFacts.{Fileable, fileable}
-use Rattle.book.proofs.FilingLaws.{Here, part-here, part-there, mark-here, mark-there, file-lawful}
+use Rattle.book.proofs.FilingLaws.{Here, part-here, part-there, mark-here, mark-there, still-sound}
 use Rattle.book.proofs.KeptSound.{keeps-sized}
 use Rattle.book.proofs.AmongLaws.{first, later, none-among, Stands, is-first, in-rest, stands}
 
@@ -115,7 +113,7 @@ same-sound : (b : Book) (f : Filing) → Sized b → sound (next b f) ≡ sound 
 unfolding ownRows
 same-sound b f z =
     by-verdict b (Call.File f) (λ p. sound (p .book) ≡ sound b) (λ r. refl)
-    (λ s e. is-sound (done b (Call.File f) .book) (file-lawful b f (fileable b f s e) .sound z) ∙ sym s)
+    (λ s e. still-sound b f z (fileable b f s e))
 
 module _ (b : Book) (f g : Filing) (z : Sized b) (apart : familyOf f ≡ familyOf g → ⊥) where
   verdict-same : firstRefusal (table (next b f) (Call.File g)) ≡ firstRefusal (table b (Call.File g))
@@ -133,13 +131,8 @@ module _ (b : Book) (f g : Filing) (z : Sized b) (apart : familyOf f ≡ familyO
   unfolding posted done stored
   answer-same read same =
       ap (λ (v : Verdict). read (outcome v (next b f) (done (next b f) (Call.File g)) .answer)) verdict-same
-      ∙ by-cases (firstRefusal (table b (Call.File g)))
-    where
-      by-cases :
-          (v : Verdict)
-          → read (outcome v (next b f) (done (next b f) (Call.File g)) .answer) ≡ read (outcome v b (done b (Call.File g)) .answer)
-      by-cases Accepted = same (record { 0 = partFor g }) _ _
-      by-cases (Refuse r) = refl
+      ∙ alike (λ p q. read (p .answer) ≡ read (q .answer)) (firstRefusal (table b (Call.File g))) _ _ _ _ (λ r. refl)
+      (same (record { 0 = partFor g }) _ _)
 
   gets-same : getsAfter (next b f) [] g ≡ getsAfter b [] g
   unfolding bookAfter

@@ -16,6 +16,7 @@ use Rattle.figuring.proofs.EditionLaws.{named-range}
 use Rattle.figuring.proofs.PartLaws.{part-bound}
 use Rattle.book.specs.Sizes.{cells, families}
 use Rattle.book.specs.Ledger.{marked, withMark, partAt}
+use Rattle.book.specs.Soundness.{sound}
 use Rattle.book.specs.Postings.{filingDone, filingCell, stored, partFor}
 use Rattle.book.specs.Rules.{done}
 use Rattle.book.specs.Accounts.{Accounts, move}
@@ -26,7 +27,7 @@ use Rattle.book.specs.declared.kinds.Call.{Call}
 use Rattle.book.specs.declared.kinds.Filing.{Filing}
 use Rattle.book.proofs.FileFacts.{Fileable}
 use Rattle.book.proofs.MarkLaws.{marked-same, marked-other}
-use Rattle.book.proofs.SoundnessLaws.{Sound, sound-is}
+use Rattle.book.proofs.SoundnessLaws.{Sound, sound-is, is-sound}
 use Rattle.book.proofs.Balances.{Agree, families-put}
 use Rattle.book.proofs.Lawful.{Lawful}
 
@@ -143,3 +144,7 @@ file-lawful b f g =
       lot = λ k i o. refl;
       shortage = λ k i o. refl;
     }
+
+-- soundness is what it was
+pub still-sound : (b : Book) (f : Filing) → Sized b → Fileable b f → sound (done b (Call.File f) .book) ≡ sound b
+still-sound b f z h = is-sound (done b (Call.File f) .book) (file-lawful b f h .sound z) ∙ sym (h .sound)

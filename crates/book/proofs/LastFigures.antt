@@ -7,16 +7,12 @@ use borrow.Author.Tests.{eqb-true, eq-eqb}
 use lib.Dec.{eqb}
 use Rattle.book.specs.Ledger.{Key}
 use Rattle.book.specs.Postings.{partFor, filingKey}
-use Rattle.book.specs.Accounts.{Accounts, Entry, zeroAccounts, sameKey, move, whenAccepted, feed, feedAll, accountsOf}
-use Rattle.book.specs.Amendments.{acceptedFiling, NoneOf, CountsLast}
+use Rattle.book.specs.Accounts.{Accounts, Entry, asAccepted, zeroAccounts, sameKey, move, whenAccepted, feed, feedAll, accountsOf}
+use Rattle.book.specs.Amendments.{NoneOf, CountsLast}
 use Rattle.book.specs.declared.kinds.Call.{Call}
 use Rattle.book.specs.declared.kinds.Filing.{Filing}
-use Rattle.book.proofs.LedgerLaws.{same-true}
+use Rattle.book.proofs.LedgerLaws.{same-self, same-true}
 use Rattle.book.proofs.AmongLaws.{later}
-
-same-self : (k : Key) → sameKey k k ≡ true
-unfolding sameKey
-same-self k = rw (eq-eqb (k .maker) (k .maker) refl, eq-eqb (k .set) (k .set) refl, eq-eqb (k .year) (k .year) refl)
 
 module _ (k : Key) (family : ℕ) where
   -- a call that is no accepted filing or amendment of the family leaves its part
@@ -44,19 +40,19 @@ module _ (k : Key) (family : ℕ) where
   leaves-all (e ∷ es) a n =
       leaves-all es (feed a e) (λ f p. n f (later e p))
       ∙ leaves a (e .call) (e .accepted) (λ f c t.
-      let q : acceptedFiling f ≡ e = λ i. record { call = sym c i; accepted = sym t i } in
+      let q : asAccepted (Call.File f) ≡ e = λ i. record { call = sym c i; accepted = sym t i } in
       n f (record { before = []; after = es; here = ap (λ (x : Entry). x ∷ es) (sym q) }))
 
   -- one that is sets it
-  sets : (a : Accounts) (f : Filing) → filingKey f ≡ k → f .family ≡ family → feed a (acceptedFiling f) .last k family ≡ partFor f
+  sets : (a : Accounts) (f : Filing) → filingKey f ≡ k → f .family ≡ family → feed a (asAccepted (Call.File f)) .last k family ≡ partFor f
   unfolding feed
   sets a f p q = rw (p, q, same-self k, eq-eqb family family refl)
 
   counts :
       (before after : List Entry) (a : Accounts) (f : Filing) → filingKey f ≡ k → f .family ≡ family → NoneOf after k family
-      → feedAll a (before ++ acceptedFiling f ∷ after) .last k family ≡ partFor f
+      → feedAll a (before ++ asAccepted (Call.File f) ∷ after) .last k family ≡ partFor f
   unfolding feedAll
-  counts [] after a f p q n = leaves-all after (feed a (acceptedFiling f)) n ∙ sets a f p q
+  counts [] after a f p q n = leaves-all after (feed a (asAccepted (Call.File f))) n ∙ sets a f p q
   counts (e ∷ before) after a f p q n = counts before after (feed a e) f p q n
 
 pub counts-last : (es : List Entry) (k : Key) (family : ℕ) → CountsLast es k family

@@ -44,6 +44,10 @@ same-true k j e =
       year = eqb-true (k .year) (j .year) (q .1) i;
     }
 
+pub same-self : (k : Key) → sameKey k k ≡ true
+unfolding sameKey
+same-self k = rw (eq-eqb (k .maker) (k .maker) refl, eq-eqb (k .set) (k .set) refl, eq-eqb (k .year) (k .year) refl)
+
 place-below : (k : Key) → In k → place k < places
 place-below k h = omega arith
 

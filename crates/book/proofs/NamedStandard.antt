@@ -19,8 +19,7 @@ use Rattle.book.specs.declared.kinds.Call.{Call}
 use Rattle.book.specs.declared.kinds.Filing.{Filing}
 use Rattle.book.specs.declared.answers.Answer.{Answer}
 use Rattle.book.specs.declared.answers.Verdict.{Verdict}
-use Rattle.book.specs.declared.answers.Verdict.the-variants.{Accepted, Refuse}
-use Rattle.book.proofs.TableLaws.{by-verdict}
+use Rattle.book.proofs.TableLaws.{alike, by-verdict}
 use Rattle.book.proofs.FileFacts.{accepted-filing}
 
 answers-part :
@@ -68,12 +67,7 @@ module _ (b : Book) (f : Filing) (n : noEdition (f .edition) (f .set) (f .year) 
   unfolding posted
   same-answer read e =
       ap (λ (v : Verdict). read (outcome v b (done b (Call.File f)) .answer)) same-verdict
-      ∙ by-cases (firstRefusal (table b ordinary))
-    where
-      by-cases :
-          (v : Verdict) → read (outcome v b (done b (Call.File f)) .answer) ≡ read (outcome v b (done b ordinary) .answer)
-      by-cases Accepted = e
-      by-cases (Refuse r) = refl
+      ∙ alike (λ p q. read (p .answer) ≡ read (q .answer)) (firstRefusal (table b ordinary)) _ _ _ _ (λ r. refl) e
 
 pub else-the-same : (b : Book) (f : Filing) → ElseTheSame b f
 unfolding done stored refusalIn valuesIn

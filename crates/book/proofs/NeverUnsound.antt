@@ -20,16 +20,16 @@ use Rattle.book.specs.declared.answers.Refusal.{Refusal}
 use Rattle.book.specs.declared.answers.Verdict.the-variants.{Refuse}
 use Rattle.book.proofs.TableLaws.{by-rows, sound-head}
 use Rattle.book.proofs.RefusalLaws.{accepted-number}
-use Rattle.book.proofs.CallLaws.{lawful, noTwo, own-not-two}
+use Rattle.book.proofs.CallLaws.{lawful, noneGives, own-not-two}
 use Rattle.book.proofs.FreshSound.{fresh-sound, fresh-sized}
 use Rattle.book.proofs.KeptSound.{sound-after}
 
 -- ---- refusal 2
 refuses-not-two :
-    (xs : List Row) (r : Refusal) → noTwo xs ≡ true → firstRefusal xs ≡ Refuse r → numberOf r ≡ 2 → ⊥
+    (xs : List Row) (r : Refusal) → noneGives 2 xs ≡ true → firstRefusal xs ≡ Refuse r → numberOf r ≡ 2 → ⊥
 refuses-not-two [] r e h n = let z : _≡_ {A = ℕ} 0 1 = cc in omega arith
 refuses-not-two (x ∷ xs) r e h n =
-    let w = both (not (eqb (numberOf (x .why)) 2)) (noTwo xs) e in
+    let w = both (not (eqb (numberOf (x .why)) 2)) (noneGives 2 xs) e in
     go (x .test) h (eqb-false _ _ (not-true _ (w .0))) (λ d. refuses-not-two xs r (w .1) d n)
   where
     go :

@@ -14,8 +14,8 @@ use Rattle.book.specs.Sizes.{places, allParts}
 use Rattle.book.specs.Ledger.{Key, In, cell}
 use Rattle.book.specs.Postings.{freshBook, coveredShortage}
 use Rattle.book.specs.Rules.{ownRows, posted}
-use Rattle.book.specs.Accounts.{Accounts, Entry, zeroAccounts, feed, feedAll, accountsOf}
-use Rattle.book.specs.Demand3.{isAccepted, entryOf, history, bookAfter, Covers, acceptedApplication, Demand3}
+use Rattle.book.specs.Accounts.{Accounts, Entry, asAccepted, zeroAccounts, feed, feedAll, accountsOf}
+use Rattle.book.specs.Demand3.{isAccepted, entryOf, history, bookAfter, Covers, Demand3}
 use Rattle.book.specs.declared.ledger.Book.{Book}
 use Rattle.book.specs.declared.kinds.Call.{Call}
 use Rattle.book.specs.declared.kinds.Application.{Application}
@@ -82,18 +82,18 @@ covers b a p h =
 
 pub covers-all :
     (cs : List Call) (b : Book) (a : Accounts) → Agree b a → (before after : List Entry) (p : Application)
-    → history b cs ≡ before ++ acceptedApplication p ∷ after → Covers (feedAll a before) p
+    → history b cs ≡ before ++ asAccepted (Call.Apply p) ∷ after → Covers (feedAll a before) p
 unfolding history feedAll
 covers-all [] b a h [] after p e = absurd (let z : _≡_ {A = ℕ} 0 1 = cc in omega arith)
 covers-all [] b a h (x ∷ before) after p e = absurd (let z : _≡_ {A = ℕ} 0 1 = cc in omega arith)
 covers-all (c ∷ cs) b a h [] after p e =
-    let q : entryOf b c ≡ acceptedApplication p = cc in
+    let q : entryOf b c ≡ asAccepted (Call.Apply p) = cc in
     let qc : c ≡ Call.Apply p = ap (λ (x : Entry). x .call) q in
     let qa : isAccepted (posted b c .answer) ≡ true = ap (λ (x : Entry). x .accepted) q in
     covers b a p h (rw qc at qa)
 covers-all (c ∷ cs) b a h (x ∷ before) after p e =
     let q : entryOf b c ≡ x = cc in
-    let t : history (posted b c .book) cs ≡ before ++ acceptedApplication p ∷ after = cc in
+    let t : history (posted b c .book) cs ≡ before ++ asAccepted (Call.Apply p) ∷ after = cc in
     rw (← q) (covers-all cs (posted b c .book) (feed a (entryOf b c)) (keeps b a c h) before after p t)
 
 -- ---- demand 3

@@ -32,9 +32,8 @@ use Rattle.book.specs.declared.ledger.Book.{Book}
 use Rattle.book.specs.declared.kinds.Call.{Call}
 use Rattle.book.specs.declared.answers.Answer.{Answer}
 use Rattle.book.specs.declared.answers.Posted.{Posted}
-use Rattle.book.specs.declared.answers.Verdict.{Verdict}
-use Rattle.book.specs.declared.answers.Verdict.the-variants.{Accepted, Refuse}
 use Rattle.book.proofs.BelowLaws.{all-at, all-of}
+use Rattle.book.proofs.TableLaws.{alike}
 use Rattle.book.proofs.SoundnessLaws.{Sound, sound-is, is-sound, zero-is}
 
 pub sound-parts : SoundParts
@@ -172,14 +171,11 @@ module _ (b : Book) where
       ap (λ (x : Bool). outcome (firstRefusal (headRows x ++ ownRows (restatedBook b) (restatedCall c))) (restatedBook b) after)
       same-sound
       ∙ ap (λ (xs : List Row). outcome (firstRefusal (headRows (oldSound b) ++ xs)) (restatedBook b) after) (same-rows c)
-      ∙ by-cases (firstRefusal (headRows (oldSound b) ++ ownRows b (oldLimits c)))
+      ∙ alike (λ p q. p ≡ restatedPosted q) (firstRefusal (headRows (oldSound b) ++ ownRows b (oldLimits c))) _ _ _ _ (λ r. refl)
+      (same-done c)
     where
       after : Posted
       after = done (restatedBook b) (restatedCall c)
-
-      by-cases : (v : Verdict) → outcome v (restatedBook b) after ≡ restatedPosted (outcome v b (oldDone b c))
-      by-cases Accepted = same-done c
-      by-cases (Refuse r) = refl
 
 -- ---- any list of calls
 side-by-side : (b : Book) (cs : List Call) → SideBySide b (restatedBook b) cs

@@ -72,6 +72,13 @@ pub same-after :
 same-after [] ys zs e = e
 same-after (x ∷ xs) ys zs e = ap (orElse (x .test) (x .why)) (same-after xs ys zs e)
 
+-- two outcomes of one verdict are alike where both its ways are
+pub alike :
+    (R : Posted → Posted → Type 0) (v : Verdict) (b d : Book) (p q : Posted)
+    → ((r : Refusal) → R (refusedWith b r) (refusedWith d r)) → R p q → R (outcome v b p) (outcome v d q)
+alike R Accepted b d p q onRefusal onDone = onDone
+alike R (Refuse r) b d p q onRefusal onDone = onRefusal r
+
 -- ---- the head, and then the call's own rows
 module _ (b : Book) where
   pub head-sound : firstRefusal (headRows (sound b)) ≡ Accepted → sound b ≡ true

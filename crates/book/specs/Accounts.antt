@@ -18,6 +18,10 @@ pub record Entry : Type 0 where
   pub call : Call
   pub accepted : Bool
 
+-- a call entered as accepted
+abbrev pub asAccepted : Call → Entry
+asAccepted c = record { call = c; accepted = true }
+
 -- what trades, applications and retirements add to, in Mg
 pub data Column : Type 0 where
   bought : Column

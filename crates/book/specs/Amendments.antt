@@ -1,7 +1,7 @@
 -- Card 6, "Amended level": an amendment is a filing whose `amends` is set. Rules, Postings and Accounts have it; here the
 -- card's words stand by themselves, for any book. The proofs are in proofs/Amendments.antt and proofs/LastFigures.antt.
 use Prim.Native.Nat.{ℕ, _+_, _*_}
-use mathlib.Core.Bool.{Bool, true, false, cond}
+use mathlib.Core.Bool.{true, false, cond}
 use mathlib.Core.List.{List, _∷_, _++_}
 use mathlib.Core.Path.{_≡_}
 use lib.Dec.{eqb}
@@ -13,7 +13,7 @@ use Rattle.book.specs.Ledger.{Key, filedIn}
 use Rattle.book.specs.Refusals.{refusalIn}
 use Rattle.book.specs.Postings.{partFor, filingCell, filingKey, withFamilies}
 use Rattle.book.specs.Rules.{posted}
-use Rattle.book.specs.Accounts.{Entry, accountsOf}
+use Rattle.book.specs.Accounts.{Entry, asAccepted, accountsOf}
 use Rattle.book.specs.Demand3.{isAccepted}
 use Rattle.book.specs.Companions.{Sized}
 use Rattle.book.specs.Orders.{Among}
@@ -77,16 +77,13 @@ LastCounts b f g =
 
 -- In the accounts: the part of a family of a year is that of the last accepted filing or amendment of it, and 0 where
 -- there is none.
-abbrev pub acceptedFiling : Filing → Entry
-acceptedFiling f = record { call = Call.File f; accepted = true }
-
 -- no entry of a history is an accepted filing or amendment of the family
 abbrev pub NoneOf : List Entry → Key → ℕ → Type 0
-NoneOf es k family = (f : Filing) → Among (acceptedFiling f) es → filingKey f ≡ k → f .family ≡ family → ⊥
+NoneOf es k family = (f : Filing) → Among (asAccepted (Call.File f)) es → filingKey f ≡ k → f .family ≡ family → ⊥
 
 pub record CountsLast (es : List Entry) (k : Key) (family : ℕ) : Type 0 where
   pub last :
       (before after : List Entry) (f : Filing)
-      → es ≡ before ++ acceptedFiling f ∷ after → filingKey f ≡ k → f .family ≡ family → NoneOf after k family
+      → es ≡ before ++ asAccepted (Call.File f) ∷ after → filingKey f ≡ k → f .family ≡ family → NoneOf after k family
       → accountsOf es .last k family ≡ partFor f
   pub none : NoneOf es k family → accountsOf es .last k family ≡ pos 0

@@ -8,7 +8,7 @@ use mathlib.Core.Path.{_≡_}
 use Rattle.book.specs.Ledger.{Key, In, figureAt}
 use Rattle.book.specs.Postings.{freshBook, coveredShortage}
 use Rattle.book.specs.Rules.{posted}
-use Rattle.book.specs.Accounts.{Accounts, Entry, accountsOf}
+use Rattle.book.specs.Accounts.{Accounts, Entry, asAccepted, accountsOf}
 use Rattle.book.specs.Accounts.{bought, sold, applied, retired, covered}
 use Rattle.book.specs.declared.ledger.Book.{Book}
 use Rattle.book.specs.declared.kinds.Call.{Call}
@@ -49,13 +49,10 @@ pub record Covers (a : Accounts) (p : Application) : Type 0 where
   pub notTooLate : p .year ≤ p .vintage + 5
   pub notTooEarly : p .vintage ≤ p .year + 3
 
-abbrev pub acceptedApplication : Application → Entry
-acceptedApplication p = record { call = Call.Apply p; accepted = true }
-
 pub record Demand3 (cs : List Call) : Type 0 where
   -- every lot and every shortage, of every maker, set and year 2014 to 2037
   pub reconciled : (k : Key) → In k → Reconciled (bookAfter freshBook cs) (accountsOf (history freshBook cs)) k
   -- every accepted application of the list, wherever it stands in it
   pub covers :
       (before after : List Entry) (p : Application)
-      → history freshBook cs ≡ before ++ acceptedApplication p ∷ after → Covers (accountsOf before) p
+      → history freshBook cs ≡ before ++ asAccepted (Call.Apply p) ∷ after → Covers (accountsOf before) p

@@ -5,12 +5,9 @@ use mathlib.Core.Bool.{Bool, true, false}
 use mathlib.Core.List.{List, [], _∷_}
 use mathlib.Core.Path.{_≡_}
 use Rattle.book.specs.Ledger.{Key, key}
-use Rattle.book.specs.Accounts.{Accounts, Entry, accountsOf, bought, sold, applied, retired, covered}
+use Rattle.book.specs.Accounts.{Accounts, Entry, asAccepted, accountsOf, bought, sold, applied, retired, covered}
 use Rattle.book.specs.Marked.{filingWith}
 use Rattle.book.specs.declared.kinds.Call.{Call}
-
-abbrev pub taken : Call → Entry
-taken c = record { call = c; accepted = true }
 
 abbrev pub turnedDown : Call → Entry
 turnedDown c = record { call = c; accepted = false }
@@ -19,18 +16,18 @@ turnedDown c = record { call = c; accepted = false }
 -- trade that was refused
 abbrev pub example : List Entry
 example =
-    taken (filingWith 0 465)
-    ∷ taken (Call.Close 2014)
-    ∷ taken (Call.Trade (record { from = 0; to = 1; set = 3; vintage = 2014; mg = 200 }))
-    ∷ taken (Call.Apply (record { maker = 1; set = 3; vintage = 2014; year = 2016; mg = 30 }))
-    ∷ taken (Call.Retire (record { maker = 0; set = 3; vintage = 2014; mg = 5 }))
+    asAccepted (filingWith 0 465)
+    ∷ asAccepted (Call.Close 2014)
+    ∷ asAccepted (Call.Trade (record { from = 0; to = 1; set = 3; vintage = 2014; mg = 200 }))
+    ∷ asAccepted (Call.Apply (record { maker = 1; set = 3; vintage = 2014; year = 2016; mg = 30 }))
+    ∷ asAccepted (Call.Retire (record { maker = 0; set = 3; vintage = 2014; mg = 5 }))
     ∷ turnedDown (Call.Trade (record { from = 0; to = 1; set = 3; vintage = 2014; mg = 1000 }))
     ∷ []
 
 -- heavy families with figures by which 1 g/hp-hr is 1 Mg
 abbrev pub heavy : Bool → ℕ → ℕ → ℕ → ℕ → ℕ → ℕ → Entry
 heavy amends maker year vehicleUse edition family fcl =
-    taken (Call.File (record {
+    asAccepted (Call.File (record {
       amends = amends;
       maker = maker;
       set = 3;
@@ -55,7 +52,7 @@ editions =
     ∷ heavyWith 1 0 2 505
     ∷ heavyWith 2 1 0 435
     ∷ heavyWith 3 1 2 435
-    ∷ taken (Call.Close 2025)
+    ∷ asAccepted (Call.Close 2025)
     ∷ []
 
 -- Card 6: vocational families, whose standard in 2025 and 2026 is 506, filed and amended
@@ -84,10 +81,10 @@ amendments =
     -- an amendment that was refused; the same family a year later, and its own amendment
     ∷ files 3 2025 0 500
     ∷ turnedDown (amends 3 2025 0 506 .call)
-    ∷ taken (Call.Close 2025)
+    ∷ asAccepted (Call.Close 2025)
     ∷ files 3 2026 0 504
     ∷ amends 3 2026 0 505
-    ∷ taken (Call.Close 2026)
+    ∷ asAccepted (Call.Close 2026)
     ∷ []
 
 -- the Mg at a key in document 01's order: "earned, shortfall, bought, sold, applied, retired and covered"

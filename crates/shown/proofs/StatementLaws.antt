@@ -13,7 +13,7 @@ use Rattle.book.specs.Sizes.{makers, sets, years}
 use Rattle.book.specs.Ledger.{Key, key, In, figureAt}
 use Rattle.figuring.specs.Life.{closedYear, live, expired, openShort, overdue}
 use Rattle.book.specs.Listing.{isCellYear, lotIf, lotEntry, shortageIf, shortageEntry}
-use Rattle.book.specs.Accounts.{Accounts, move, feed, feedAll}
+use Rattle.book.specs.Accounts.{Accounts, asAccepted, move, feed, feedAll}
 use Rattle.book.specs.Postings.{stored, closeDone, tradeDone, applicationDone, retirementDone}
 use Rattle.book.specs.Rules.{posted, done}
 use Rattle.book.specs.Demand3.{isAccepted, history, bookAfter, Reconciled}
@@ -30,7 +30,7 @@ use Rattle.text.specs.Numeral.{numeral}
 use Rattle.text.specs.Pattern.{filled, hash, choose}
 use Rattle.text.specs.Desk.{lineFeed}
 use Rattle.text.specs.Listing.{lotText, shortageText, gather, lotLine, shortageLine, cellText, makerText, listing}
-use Rattle.shown.specs.Statement.{asAccepted, yearAfter, yearFrom, lotBy, shortageBy, Item, lot, short, above0, collect, lotItem, shortItem, cellItems, items, itemLine, itemLines}
+use Rattle.shown.specs.Statement.{yearAfter, yearFrom, lotBy, shortageBy, Item, lot, short, above0, collect, lotItem, shortItem, cellItems, items, itemLine, itemLines}
 
 -- ---- the accounts and the open year see the accepted calls alone
 pub accounts-same : (a : Accounts) (b : Book) (cs : List Call) → feedAll a (history b cs) ≡ feedAll a (map asAccepted (acceptedOnly b cs))

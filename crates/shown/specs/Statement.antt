@@ -1,12 +1,12 @@
 -- The statement that postings come to: a function of the accepted calls, by their accounts, and of no book.
 use Prim.Native.Nat.{ℕ, zero, suc, _+_, _-_, _*_}
-use mathlib.Core.Bool.{true, cond}
+use mathlib.Core.Bool.{cond}
 use mathlib.Core.List.{List, [], _∷_, _++_, map}
 use Rattle.figuring.specs.Years.{firstYear}
 use Rattle.book.specs.Sizes.{makers, sets, years}
 use Rattle.book.specs.Ledger.{Key, key, cell}
 use Rattle.figuring.specs.Life.{live, openShort}
-use Rattle.book.specs.Accounts.{Accounts, Entry, accountsOf}
+use Rattle.book.specs.Accounts.{Accounts, asAccepted, accountsOf}
 use Rattle.book.specs.Accounts.{bought, sold, applied, retired, covered}
 use Rattle.book.specs.declared.kinds.Call.{Call}
 use Rattle.text.specs.Ascii.{ascii}
@@ -14,9 +14,6 @@ use Rattle.text.specs.Pattern.{filled}
 use Rattle.text.specs.Desk.{lineFeed}
 
 -- the accounts of postings, each entered as accepted
-abbrev pub asAccepted : Call → Entry
-asAccepted c = record { call = c; accepted = true }
-
 unfoldable pub accountsBy : List Call → Accounts
 accountsBy ps = accountsOf (map asAccepted ps)
 

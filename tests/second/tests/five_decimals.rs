@@ -124,13 +124,8 @@ fn closed_mg(families: &[Figures]) -> i128 {
     let mut book = Book::fresh();
     for (family, &figures) in (0..).zip(families) {
         let filing = Filing {
-            maker: 0,
-            set: 3,
-            year: 2014,
-            usage: 0,
-            edition: 0,
-            family,
             figures,
+            ..plain(family, 567)
         };
         post(&mut book, &Call::File(filing)).expect("accepted");
     }

@@ -10,13 +10,14 @@ use lib.ListN.{getD, set as store, length}
 use lib.Seq.{getD-set-same, set-getD, set-set}
 use lib.IntN.{ℤ}
 use Rattle.figuring.proofs.BoolLaws.{both}
+use Rattle.figuring.specs.Tables.{Table, acceptedTable}
 use Rattle.book.specs.Filings.{withAmends}
 use Rattle.book.specs.Sizes.{families}
 use Rattle.book.specs.Ledger.{cell, withMark}
 use Rattle.book.specs.Soundness.{sound}
 use Rattle.book.specs.Refusals.{Row, orElse, firstRefusal, numberOf, refusalIn}
-use Rattle.book.specs.Postings.{partFor, filingCell, stored}
-use Rattle.book.specs.Rules.{posted, done, outcome, table, headRows, ownRows, figureRows, fileRows, filedRow}
+use Rattle.book.specs.Postings.{ordinaryFor, partFor, partBeside, filingCell, stored}
+use Rattle.book.specs.Rules.{posted, done, outcome, rowsFor, headRows, ownRows, fitRow, figureRows, fileRows, filedRow}
 use Rattle.book.specs.Demand3.{isAccepted}
 use Rattle.book.specs.Companions.{Sized}
 use Rattle.book.specs.FilingOrder.{Family, familyOf, isFiled}
@@ -35,14 +36,14 @@ use Rattle.book.proofs.FilingLaws.{mark-here, still-sound}
 use Rattle.book.proofs.MarkLaws.{marked-same, mark-kept}
 
 -- ---- what an accepted amendment replaces
-pub amends : (b : Book) (f : Filing) → Amended b f
-unfolding ownRows done stored partFor isAccepted
-amends b f =
-    by-verdict b (Call.File (withAmends true f)) (λ p. isAccepted (p .answer) ≡ true → p ≡ replaced b f)
+pub amends : (t : Table) (b : Book) (f : Filing) → Amended t b f
+unfolding ownRows done stored partBeside isAccepted
+amends t b f =
+    by-verdict t b (Call.File (withAmends true f)) (λ p. isAccepted (p .answer) ≡ true → p ≡ replaced t b f)
     (λ r a. absurd (true≢false (sym a)))
     (λ s e a.
     let mark = getD (b .marks) (filingCell f) 0 in
-    let k : withMark mark (f .family) ≡ mark = mark-kept mark (f .family) (fileable b (withAmends true f) s e .mark) in
+    let k : withMark mark (f .family) ≡ mark = mark-kept mark (f .family) (fileable t b (withAmends true f) s e .mark) in
     let m : store (b .marks) (filingCell f) mark ≡ b .marks = set-getD (b .marks) (filingCell f) 0 in
     rw (k, m))
 
@@ -74,23 +75,26 @@ in-place isFiled (x ∷ xs) e = go (x .test) (in-place isFiled xs (w .1))
     go false ih = ih
 
 -- the rows before the last, which read neither the marks nor whether the call amends
-abbrev rowsBefore : Book → Filing → List Row
-rowsBefore b f = headRows (sound b) ++ figureRows (b .«open_year») f
+abbrev rowsBefore : Table → Book → Filing → List Row
+rowsBefore t b f =
+    headRows (sound b) (fitRow (acceptedTable t) ∷ []) ++ figureRows (ordinaryFor t f) (b .«open_year») f
 
-number-of : (b : Book) (f : Filing) → refusalIn (posted b (Call.File f) .answer) ≡ numbered (firstRefusal (table b (Call.File f)))
+number-of :
+    (t : Table) (b : Book) (f : Filing)
+    → refusalIn (posted t b (Call.File f) .answer) ≡ numbered (firstRefusal (rowsFor t b (Call.File f)))
 unfolding posted done stored refusalIn
-number-of b f = go (firstRefusal (table b (Call.File f)))
+number-of t b f = go (firstRefusal (rowsFor t b (Call.File f)))
   where
-    go : (v : Verdict) → refusalIn (outcome v b (done b (Call.File f)) .answer) ≡ numbered v
+    go : (v : Verdict) → refusalIn (outcome v b (done t b (Call.File f)) .answer) ≡ numbered v
     go Accepted = refl
     go (Refuse r) = refl
 
-pub stands-in-place : (b : Book) (f : Filing) → StandsInPlaceOf9 b f
-unfolding table headRows ownRows fileRows
-stands-in-place b f =
-    number-of b (withAmends true f)
-    ∙ in-place (isFiled b (familyOf f)) (rowsBefore b f) refl
-    ∙ ap inPlaceOf9 (sym (number-of b (withAmends false f)))
+pub stands-in-place : (t : Table) (b : Book) (f : Filing) → StandsInPlaceOf9 t b f
+unfolding rowsFor headRows ownRows fileRows
+stands-in-place t b f =
+    number-of t b (withAmends true f)
+    ∙ in-place (isFiled b (familyOf f)) (rowsBefore t b f) refl
+    ∙ ap inPlaceOf9 (sym (number-of t b (withAmends false f)))
 
 -- ---- the last one counts
 -- a part stored over another: as if it alone had been stored
@@ -114,9 +118,9 @@ as-asked false isFiled e = rw e
 abbrev SameAs : Posted → Posted → Type 0
 SameAs p q = (p .answer ≡ q .answer) × (isAccepted (q .answer) ≡ true → p .book ≡ q .book)
 
-module _ (b : Book) (f g : Filing) (z : Sized b) (h : Fileable b f) (same : familyOf f ≡ familyOf g) where
+module _ (t u : Table) (b : Book) (f g : Filing) (z : Sized b) (h : Fileable t b f) (same : familyOf f ≡ familyOf g) where
   abbrev after : Book
-  after = done b (Call.File f) .book
+  after = done t b (Call.File f) .book
 
   -- g in f's place, and after it
   abbrev there : Filing
@@ -132,40 +136,45 @@ module _ (b : Book) (f g : Filing) (z : Sized b) (h : Fileable b f) (same : fami
   filed-after : isFiled after (familyOf g) ≡ true
   unfolding done stored
   filed-after =
-      mark-here b (filingCell f) (f .family) (partFor f) z (omega (arith, h .maker, h .set)) (h .family)
+      mark-here b (filingCell f) (f .family) (partFor t f) z (omega (arith, h .maker, h .set)) (h .family)
       (filingCell g) (g .family) (same-cell, same-number)
 
   filed-before : isFiled b (familyOf g) ≡ f .amends
   filed-before = rw (same-cell, same-number) (h .mark)
 
-  same-verdict : firstRefusal (table after (Call.File (withAmends true g))) ≡ firstRefusal (table b (Call.File there))
-  unfolding done stored table headRows ownRows fileRows
+  same-verdict :
+      firstRefusal (rowsFor u after (Call.File (withAmends true g))) ≡ firstRefusal (rowsFor u b (Call.File there))
+  unfolding done stored rowsFor headRows ownRows fileRows
   same-verdict =
-      ap (λ (s : Bool). firstRefusal (headRows s ++ fileRows (b .«open_year») (after .marks) (withAmends true g))) (still-sound b f z h)
-      ∙ same-after (rowsBefore b g) (filedRow true (isFiled after (familyOf g)) ∷ []) (filedRow (f .amends) (isFiled b (familyOf g)) ∷ [])
+      ap
+      (λ (s : Bool). firstRefusal
+      (headRows s (fitRow (acceptedTable u) ∷ []) ++ fileRows (ordinaryFor u g) (b .«open_year») (after .marks) (withAmends true g)))
+      (still-sound t b f z h)
+      ∙ same-after (rowsBefore u b g) (filedRow true (isFiled after (familyOf g)) ∷ []) (filedRow (f .amends) (isFiled b (familyOf g)) ∷ [])
       (as-asked true (isFiled after (familyOf g)) filed-after ∙ sym (as-asked (f .amends) (isFiled b (familyOf g)) filed-before))
 
-  same-done : done after (Call.File (withAmends true g)) ≡ done b (Call.File there)
-  unfolding done partFor
+  same-done : done u after (Call.File (withAmends true g)) ≡ done u b (Call.File there)
+  unfolding done partBeside
   same-done =
       rw (same-cell, same-number)
-      (stored-again b (filingCell f) (f .family) (partFor f) (partFor g) (omega (arith, h .maker, h .set, z .marks)))
+      (stored-again b (filingCell f) (f .family) (partFor t f) (partFor u g) (omega (arith, h .maker, h .set, z .marks)))
 
-  in-its-place : SameAs (posted after (Call.File (withAmends true g))) (posted b (Call.File there))
+  in-its-place : SameAs (posted u after (Call.File (withAmends true g))) (posted u b (Call.File there))
   unfolding posted isAccepted
   in-its-place =
-      subst (λ (v : Verdict). SameAs (outcome v after (done after (Call.File (withAmends true g)))) (posted b (Call.File there)))
+      subst
+      (λ (v : Verdict). SameAs (outcome v after (done u after (Call.File (withAmends true g)))) (posted u b (Call.File there)))
       (sym same-verdict)
-      (alike SameAs (firstRefusal (table b (Call.File there))) _ _ _ _ (λ r. (refl, λ a. absurd (true≢false (sym a))))
+      (alike SameAs (firstRefusal (rowsFor u b (Call.File there))) _ _ _ _ (λ r. (refl, λ a. absurd (true≢false (sym a))))
       (ap (λ (p : Posted). p .answer) same-done, λ a. ap (λ (p : Posted). p .book) same-done))
 
-pub last-counts : (b : Book) (f g : Filing) → LastCounts b f g
+pub last-counts : (t u : Table) (b : Book) (f g : Filing) → LastCounts t u b f g
 unfolding ownRows isAccepted
-last-counts b f g z a same =
+last-counts t u b f g z a same =
     let w =
-    by-verdict b (Call.File f)
+    by-verdict t b (Call.File f)
     (λ p. isAccepted (p .answer) ≡ true
-    → SameAs (posted (p .book) (Call.File (withAmends true g))) (posted b (Call.File (withAmends (f .amends) g))))
-    (λ r t. absurd (true≢false (sym t))) (λ s e t. in-its-place b f g z (fileable b f s e) same) a
+    → SameAs (posted u (p .book) (Call.File (withAmends true g))) (posted u b (Call.File (withAmends (f .amends) g))))
+    (λ r d. absurd (true≢false (sym d))) (λ s e d. in-its-place t u b f g z (fileable t b f s e) same) a
     in
     record { answer = w .0; book = w .1 }

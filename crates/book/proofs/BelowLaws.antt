@@ -1,8 +1,8 @@
--- Laws of the tests and sums over the numbers below a bound: what a counted loop needs at each turn and at its end, and
+-- Laws of the test of any and of the sums over the numbers below a bound: what a counted loop needs at each turn and at its end, and
 -- what the theorems need of a sum of which one term changed.
 use Prim.Native.Nat.{ℕ, zero, suc, _+_, _*_, _-_, _<_, _≤_}
-use mathlib.Core.Bool.{Bool, true, false, _&&_, _||_, and-false, false≢true}
-use mathlib.Core.Logic.{⊎-elim, _⊎_, inl, inr}
+use mathlib.Core.Bool.{Bool, true, false, _||_}
+use mathlib.Core.Logic.{⊎-elim}
 use mathlib.Core.Path.{_≡_, refl, sym, _∙_, ap, ap₂}
 use native.Mathlib.Omega.{arith}
 use native.Mathlib.Numerals.{add-one}
@@ -10,56 +10,24 @@ use native.Mathlib.Nat.{le-refl, suc-mul}
 use native.Mathlib.Decide.{ℕ-discrete}
 use lib.IntN.{ℤ, pos, natAbs, _+ℤ_}
 use Rattle.figuring.proofs.SignedLaws.{abs-add}
-use Rattle.figuring.proofs.BoolLaws.{and-intro}
-use Rattle.book.specs.Below.{allBelow, anyBelow, sumBelow, sumBelowℤ, countBelow, oneIf}
+use Rattle.figuring.proofs.BelowLaws.{or-true, below-suc}
+use Rattle.book.specs.Below.{anyBelow, sumBelow, sumBelowℤ, countBelow, oneIf}
 
 -- ---- one more
-pub all-more : (p : ℕ → Bool) (n : ℕ) → allBelow n p ≡ true → p n ≡ true → allBelow (n + 1) p ≡ true
-unfolding allBelow
-all-more p n h k = rw (add-one, h, k)
-
 pub any-more : (p : ℕ → Bool) (n : ℕ) → anyBelow n p ≡ false → p n ≡ false → anyBelow (n + 1) p ≡ false
 unfolding anyBelow
 any-more p n h k = rw (add-one, h, k)
 
 -- ---- one that decides
-pub or-true : (b : Bool) → (b || true) ≡ true
-or-true true = refl
-or-true false = refl
-
-pub below-suc : {i n : ℕ} → i < suc n → (i ≡ n) ⊎ (i < n)
-below-suc {i} {n} h = go (ℕ-discrete i n)
-  where
-    go : Dec (i ≡ n) → (i ≡ n) ⊎ (i < n)
-    go (yes e) = inl e
-    go (no ne) = inr (omega (arith, ne))
-
-pub all-fails : (p : ℕ → Bool) (n i : ℕ) → i < n → p i ≡ false → allBelow n p ≡ false
-unfolding allBelow
-all-fails p zero i l h = absurd (omega arith)
-all-fails p (suc n) i l h =
-    ⊎-elim (λ e. rw (← e, h) (and-false (allBelow i p))) (λ m. rw (all-fails p n i m h)) (below-suc l)
-
 pub any-hits : (p : ℕ → Bool) (n i : ℕ) → i < n → p i ≡ true → anyBelow n p ≡ true
 unfolding anyBelow
 any-hits p zero i l h = absurd (omega arith)
 any-hits p (suc n) i l h =
     ⊎-elim (λ e. rw (← e, h) (or-true (anyBelow i p))) (λ m. rw (any-hits p n i m h)) (below-suc l)
 
--- ---- what a true test of all says at one
-pub all-at : (p : ℕ → Bool) (n i : ℕ) → i < n → allBelow n p ≡ true → p i ≡ true
-all-at p n i l h = go (p i) refl
-  where
-    go : (b : Bool) → p i ≡ b → p i ≡ true
-    go true e = e
-    go false e = absurd (false≢true (sym (all-fails p n i l e) ∙ h))
-
 -- ---- where a loop that counts i up to n ends
 pub any-done : (p : ℕ → Bool) (n i : ℕ) {b : Bool} → i ≤ n → n ≤ i → anyBelow i p ≡ b → anyBelow n p ≡ b
 any-done p n i l g h = ap (λ (k : ℕ). anyBelow k p) (omega arith) ∙ h
-
-pub all-done : (p : ℕ → Bool) (n i : ℕ) {b : Bool} → i ≤ n → n ≤ i → allBelow i p ≡ b → allBelow n p ≡ b
-all-done p n i l g h = ap (λ (k : ℕ). allBelow k p) (omega arith) ∙ h
 
 -- ---- sums
 pub sum-more : (f : ℕ → ℕ) (n : ℕ) → sumBelow (n + 1) f ≡ sumBelow n f + f n
@@ -81,13 +49,7 @@ sum-at f n i h = omega (arith, sum-more f i, sum-rises f n (i + 1) (omega arith)
 pub sum-done : (f : ℕ → ℕ) (n i : ℕ) → i ≤ n → n ≤ i → sumBelow i f ≡ sumBelow n f
 sum-done f n i l g = ap (λ (k : ℕ). sumBelow k f) (omega arith)
 
--- ---- two tests
 -- ---- every one of them
-pub all-of : (p : ℕ → Bool) (n : ℕ) → ((i : ℕ) → i < n → p i ≡ true) → allBelow n p ≡ true
-unfolding allBelow
-all-of p zero h = refl
-all-of p (suc n) h = and-intro (all-of p n (λ i l. h i (omega arith))) (h n (omega arith))
-
 pub sum-zero : (f : ℕ → ℕ) (n : ℕ) → ((i : ℕ) → i < n → f i ≡ 0) → sumBelow n f ≡ 0
 unfolding sumBelow
 sum-zero f zero h = refl

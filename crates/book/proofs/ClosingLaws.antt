@@ -9,6 +9,7 @@ use lib.ListN.{length, length-replicate}
 use lib.IntN.{pos, natAbs}
 use Rattle.figuring.specs.Years.{firstYear, lastYear}
 use Rattle.figuring.specs.Units.{engineUnit}
+use Rattle.figuring.specs.Tables.{Table}
 use Rattle.figuring.specs.Parts.{partMost}
 use Rattle.figuring.specs.Netting.{netMost, netOf, earnedOf, shortfallOf}
 use Rattle.figuring.proofs.NettingLaws.{net-bound}
@@ -106,9 +107,10 @@ close-sized b z =
     }
 
 close-agrees :
-    (b : Book) (a : Accounts) (y : ℕ) → Agree b a → Closable b y → Agree (closeDone b .book) (move a (Call.Close y))
+    (t : Table) (b : Book) (a : Accounts) (y : ℕ) → Agree b a → Closable b y
+    → Agree (closeDone b .book) (move t a (Call.Close y))
 unfolding closeDone
-close-agrees b a y h g =
+close-agrees t b a y h g =
     let s = sound-is b (g .sound) in
     rw (g .year)
     (record {
@@ -127,15 +129,15 @@ close-agrees b a y h g =
         → netOf engineUnit (sumAt a k) ≡ netOf engineUnit (cellSum (b .parts) (cell (k .maker) (k .set)))
     net-same k i e = ap (netOf engineUnit) (families-sum (h .families) k i e)
 
-pub close-lawful : (b : Book) (y : ℕ) → Closable b y → Lawful b (Call.Close y)
+pub close-lawful : (t : Table) (b : Book) (y : ℕ) → Closable b y → Lawful t b (Call.Close y)
 unfolding done closeDone isAccepted
-close-lawful b y g =
+close-lawful t b y g =
     record {
       answered = refl;
       onward = omega arith;
       sized = close-sized b;
       sound = λ z. close-sound b y z g;
-      agrees = λ a h. close-agrees b a y h g;
+      agrees = λ a h. close-agrees t b a y h g;
       lot = λ k i o. netted-out (b .«open_year») (earnedBy b) (b .lots) k i (g .from) (g .upto) (omega (arith, o));
       shortage = λ k i o. netted-out (b .«open_year») (shortBy b) (b .shortages) k i (g .from) (g .upto) (omega (arith, o));
     }

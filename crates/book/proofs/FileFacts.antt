@@ -7,7 +7,8 @@ use borrow.Author.Tests.{leb-false, eqb-true, not-false}
 use lib.Dec.{eqb}
 use lib.ListN.{getD}
 use Rattle.figuring.specs.Years.{lastYear}
-use Rattle.figuring.specs.Standards.{standardFor, isAbsent}
+use Rattle.figuring.specs.Standards.{isAbsent}
+use Rattle.figuring.specs.Tables.{Table}
 use Rattle.figuring.specs.Editions.{noEdition}
 use Rattle.figuring.specs.Parts.{withinLimits, partOf, familyPart}
 use Rattle.figuring.specs.declared.units.Part.{Part}
@@ -19,7 +20,7 @@ use Rattle.book.specs.Ledger.{marked}
 use Rattle.book.specs.Soundness.{sound}
 use Rattle.book.specs.Refusals.{firstRefusal}
 use Rattle.book.specs.Rules.{filedRow, fileRows, ownRows, posted}
-use Rattle.book.specs.Postings.{filingCell}
+use Rattle.book.specs.Postings.{ordinaryFor, filingCell}
 use Rattle.book.specs.Demand3.{isAccepted}
 use Rattle.book.specs.declared.ledger.Book.{Book}
 use Rattle.book.specs.declared.kinds.Call.{Call}
@@ -28,13 +29,13 @@ use Rattle.book.specs.declared.answers.Verdict.the-variants.{Accepted}
 use Rattle.book.proofs.TableLaws.{cleared, by-verdict}
 use Rattle.book.proofs.CloseFacts.{still-open}
 
-pub record Fileable (b : Book) (f : Filing) : Type 0 where
+pub record Fileable (t : Table) (b : Book) (f : Filing) : Type 0 where
   pub sound : sound b ≡ true
   pub maker : f .maker < makers
   pub set : f .set < sets
   pub year : f .year ≡ b .«open_year»
   pub upto : b .«open_year» ≤ lastYear
-  pub standard : isAbsent (standardFor (f .set) (f .«vehicle_use») (f .year)) ≡ false
+  pub standard : isAbsent (ordinaryFor t f) ≡ false
   pub edition : noEdition (f .edition) (f .set) (f .year) ≡ false
   pub family : f .family < families
   pub limits : withinLimits (f .fcl) (f .cf) (f .volume) (f .life) ≡ true
@@ -46,11 +47,12 @@ as-amends true isFiled e = not-false isFiled e
 as-amends false isFiled e = e
 
 pub fileable :
-    (b : Book) (f : Filing) → sound b ≡ true → firstRefusal (fileRows (b .«open_year») (b .marks) f) ≡ Accepted
-    → Fileable b f
+    (t : Table) (b : Book) (f : Filing) → sound b ≡ true
+    → firstRefusal (fileRows (ordinaryFor t f) (b .«open_year») (b .marks) f) ≡ Accepted
+    → Fileable t b f
 unfolding fileRows
-fileable b f s e =
-    let p = cleared (fileRows (b .«open_year») (b .marks) f) e in
+fileable t b f s e =
+    let p = cleared (fileRows (ordinaryFor t f) (b .«open_year») (b .marks) f) e in
     record {
       sound = s;
       maker = leb-false makers (f .maker) (search);
@@ -64,11 +66,12 @@ fileable b f s e =
       mark = as-amends (f .amends) _ (search);
     }
 
-pub accepted-filing : (b : Book) (f : Filing) → isAccepted (posted b (Call.File f) .answer) ≡ true → Fileable b f
+pub accepted-filing :
+    (t : Table) (b : Book) (f : Filing) → isAccepted (posted t b (Call.File f) .answer) ≡ true → Fileable t b f
 unfolding ownRows isAccepted
-accepted-filing b f =
-    by-verdict b (Call.File f) (λ p. isAccepted (p .answer) ≡ true → Fileable b f) (λ r a. absurd (false≢true a))
-    (λ s e a. fileable b f s e)
+accepted-filing t b f =
+    by-verdict t b (Call.File f) (λ p. isAccepted (p .answer) ≡ true → Fileable t b f) (λ r a. absurd (false≢true a))
+    (λ s e a. fileable t b f s e)
 
 -- what family_part gives a filing that is within its limits
 module _ (s fcl cf volume life : ℕ) (h : withinLimits fcl cf volume life ≡ true) where

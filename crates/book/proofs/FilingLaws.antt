@@ -10,6 +10,7 @@ use lib.ListN.{getD, set as store, length-set}
 use lib.Seq.{getD-set-same, getD-set-other}
 use lib.IntN.{ℤ, pos, natAbs}
 use Rattle.figuring.specs.Standards.{gramsOf}
+use Rattle.figuring.specs.Tables.{Table}
 use Rattle.figuring.specs.Editions.{standardUnder}
 use Rattle.figuring.specs.Parts.{partMost}
 use Rattle.figuring.proofs.EditionLaws.{named-range}
@@ -17,7 +18,7 @@ use Rattle.figuring.proofs.PartLaws.{part-bound}
 use Rattle.book.specs.Sizes.{cells, families}
 use Rattle.book.specs.Ledger.{marked, withMark, partAt}
 use Rattle.book.specs.Soundness.{sound}
-use Rattle.book.specs.Postings.{filingDone, filingCell, stored, partFor}
+use Rattle.book.specs.Postings.{filingDone, filingCell, stored, ordinaryFor, partFor, partBeside}
 use Rattle.book.specs.Rules.{done}
 use Rattle.book.specs.Accounts.{Accounts, move}
 use Rattle.book.specs.Demand3.{isAccepted}
@@ -108,43 +109,45 @@ module _ (b : Book) (c f : ℕ) (z : ℤ) (sized : Sized b) (hc : c < cells) (hf
       nothing d g hd hg m (yes w) = absurd (true≢false (sym (mark-here d g w) ∙ m))
       nothing d g hd hg m (no n) = part-there d g hg n ∙ s .unmarked d g hd hg (sym (mark-there d g n) ∙ m)
 
-filed-part : (b : Book) (f : Filing) → Fileable b f → natAbs (partFor f) ≤ partMost
-unfolding partFor
-filed-part b f h =
-    let g = named-range (f .edition) (f .set) (f .«vehicle_use») (f .year) (h .standard) (h .edition) in
-    part-bound (gramsOf (standardUnder (f .edition) (f .set) (f .«vehicle_use») (f .year))) (f .fcl) (f .cf) (f .volume) (f .life)
-    (g .0) (omega arith) (h .limits)
+pub filed-part : (t : Table) (b : Book) (f : Filing) → Fileable t b f → natAbs (partFor t f) ≤ partMost
+unfolding partBeside
+filed-part t b f h =
+    let g = named-range t (f .edition) (f .set) (f .«vehicle_use») (f .year) (h .standard) (h .edition) in
+    part-bound (gramsOf (standardUnder (ordinaryFor t f) (f .edition) (f .set) (f .«vehicle_use») (f .year))) (f .fcl) (f .cf)
+    (f .volume) (f .life) (g .0) (g .1) (h .limits)
 
-file-sound : (b : Book) (f : Filing) → Sized b → Fileable b f → Sound (filingDone b f .book)
-file-sound b f z h =
-    stored-sound b (filingCell f) (f .family) (partFor f) z (omega (arith, h .maker, h .set)) (h .family)
-    (sound-is b (h .sound)) (filed-part b f h)
+file-sound : (t : Table) (b : Book) (f : Filing) → Sized b → Fileable t b f → Sound (filingDone t b f .book)
+file-sound t b f z h =
+    stored-sound b (filingCell f) (f .family) (partFor t f) z (omega (arith, h .maker, h .set)) (h .family)
+    (sound-is b (h .sound)) (filed-part t b f h)
 
 file-agrees :
-    (b : Book) (a : Accounts) (f : Filing) → Agree b a → Fileable b f → Agree (filingDone b f .book) (move a (Call.File f))
+    (t : Table) (b : Book) (a : Accounts) (f : Filing) → Agree b a → Fileable t b f
+    → Agree (filingDone t b f .book) (move t a (Call.File f))
 unfolding stored
-file-agrees b a f h g =
+file-agrees t b a f h g =
     record {
       families =
-          families-put (h .families) (f .maker) (f .set) (f .family) (f .year) (partFor f) (g .maker) (g .set) (g .family)
+          families-put (h .families) (f .maker) (f .set) (f .family) (f .year) (partFor t f) (g .maker) (g .set) (g .family)
           (g .year);
       lots = h .lots;
       shortages = h .shortages;
     }
 
-pub file-lawful : (b : Book) (f : Filing) → Fileable b f → Lawful b (Call.File f)
+pub file-lawful : (t : Table) (b : Book) (f : Filing) → Fileable t b f → Lawful t b (Call.File f)
 unfolding done stored isAccepted
-file-lawful b f g =
+file-lawful t b f g =
     record {
       answered = refl;
       onward = omega arith;
-      sized = stored-sized b (filingCell f) (f .family) (partFor f);
-      sound = λ z. file-sound b f z g;
-      agrees = λ a h. file-agrees b a f h g;
+      sized = stored-sized b (filingCell f) (f .family) (partFor t f);
+      sound = λ z. file-sound t b f z g;
+      agrees = λ a h. file-agrees t b a f h g;
       lot = λ k i o. refl;
       shortage = λ k i o. refl;
     }
 
 -- soundness is what it was
-pub still-sound : (b : Book) (f : Filing) → Sized b → Fileable b f → sound (done b (Call.File f) .book) ≡ sound b
-still-sound b f z h = is-sound (done b (Call.File f) .book) (file-lawful b f h .sound z) ∙ sym (h .sound)
+pub still-sound :
+    (t : Table) (b : Book) (f : Filing) → Sized b → Fileable t b f → sound (done t b (Call.File f) .book) ≡ sound b
+still-sound t b f z h = is-sound (done t b (Call.File f) .book) (file-lawful t b f h .sound z) ∙ sym (h .sound)

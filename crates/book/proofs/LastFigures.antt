@@ -5,6 +5,7 @@ use mathlib.Core.List.{List, [], _∷_, _++_}
 use mathlib.Core.Path.{_≡_, refl, sym, _∙_, ap}
 use borrow.Author.Tests.{eqb-true, eq-eqb}
 use lib.Dec.{eqb}
+use Rattle.figuring.specs.Tables.{Table}
 use Rattle.book.specs.Ledger.{Key}
 use Rattle.book.specs.Postings.{partFor, filingKey}
 use Rattle.book.specs.Accounts.{Accounts, Entry, asAccepted, zeroAccounts, sameKey, move, whenAccepted, feed, feedAll, accountsOf}
@@ -17,48 +18,51 @@ use Rattle.book.proofs.AmongLaws.{later}
 module _ (k : Key) (family : ℕ) where
   -- a call that is no accepted filing or amendment of the family leaves its part
   leaves :
-      (a : Accounts) (c : Call) (accepted : Bool)
+      (t : Table) (a : Accounts) (c : Call) (accepted : Bool)
       → ((f : Filing) → c ≡ Call.File f → accepted ≡ true → filingKey f ≡ k → f .family ≡ family → ⊥)
-      → whenAccepted accepted (move a c) a .last k family ≡ a .last k family
-  leaves a c false n = refl
-  leaves a (Call.File f) true n = go (sameKey (filingKey f) k) (eqb (f .family) family) refl refl
+      → whenAccepted accepted (move t a c) a .last k family ≡ a .last k family
+  leaves t a c false n = refl
+  leaves t a (Call.File f) true n = go (sameKey (filingKey f) k) (eqb (f .family) family) refl refl
     where
       go :
-          (s t : Bool) → sameKey (filingKey f) k ≡ s → eqb (f .family) family ≡ t
-          → cond (s && t) (partFor f) (a .last k family) ≡ a .last k family
+          (s d : Bool) → sameKey (filingKey f) k ≡ s → eqb (f .family) family ≡ d
+          → cond (s && d) (partFor t f) (a .last k family) ≡ a .last k family
       go true true p q = absurd (n f refl refl (same-true (filingKey f) k p) (eqb-true (f .family) family q))
       go true false p q = refl
-      go false t p q = refl
-  leaves a (Call.Close y) true n = refl
-  leaves a (Call.Trade t) true n = refl
-  leaves a (Call.Apply p) true n = refl
-  leaves a (Call.Retire p) true n = refl
+      go false d p q = refl
+  leaves t a (Call.Close y) true n = refl
+  leaves t a (Call.Trade x) true n = refl
+  leaves t a (Call.Apply p) true n = refl
+  leaves t a (Call.Retire p) true n = refl
 
   leaves-all : (es : List Entry) (a : Accounts) → NoneOf es k family → feedAll a es .last k family ≡ a .last k family
   unfolding feedAll feed
   leaves-all [] a n = refl
   leaves-all (e ∷ es) a n =
-      leaves-all es (feed a e) (λ f p. n f (later e p))
-      ∙ leaves a (e .call) (e .accepted) (λ f c t.
-      let q : asAccepted (Call.File f) ≡ e = λ i. record { call = sym c i; accepted = sym t i } in
-      n f (record { before = []; after = es; here = ap (λ (x : Entry). x ∷ es) (sym q) }))
+      leaves-all es (feed a e) (λ t f p. n t f (later e p))
+      ∙ leaves (e .table) a (e .call) (e .accepted) (λ f c d.
+      let q : asAccepted (e .table) (Call.File f) ≡ e = λ i. record { table = e .table; call = sym c i; accepted = sym d i } in
+      n (e .table) f (record { before = []; after = es; here = ap (λ (x : Entry). x ∷ es) (sym q) }))
 
   -- one that is sets it
-  sets : (a : Accounts) (f : Filing) → filingKey f ≡ k → f .family ≡ family → feed a (asAccepted (Call.File f)) .last k family ≡ partFor f
+  sets :
+      (a : Accounts) (t : Table) (f : Filing) → filingKey f ≡ k → f .family ≡ family
+      → feed a (asAccepted t (Call.File f)) .last k family ≡ partFor t f
   unfolding feed
-  sets a f p q = rw (p, q, same-self k, eq-eqb family family refl)
+  sets a t f p q = rw (p, q, same-self k, eq-eqb family family refl)
 
   counts :
-      (before after : List Entry) (a : Accounts) (f : Filing) → filingKey f ≡ k → f .family ≡ family → NoneOf after k family
-      → feedAll a (before ++ asAccepted (Call.File f) ∷ after) .last k family ≡ partFor f
+      (before after : List Entry) (a : Accounts) (t : Table) (f : Filing)
+      → filingKey f ≡ k → f .family ≡ family → NoneOf after k family
+      → feedAll a (before ++ asAccepted t (Call.File f) ∷ after) .last k family ≡ partFor t f
   unfolding feedAll
-  counts [] after a f p q n = leaves-all after (feed a (asAccepted (Call.File f))) n ∙ sets a f p q
-  counts (e ∷ before) after a f p q n = counts before after (feed a e) f p q n
+  counts [] after a t f p q n = leaves-all after (feed a (asAccepted t (Call.File f))) n ∙ sets a t f p q
+  counts (e ∷ before) after a t f p q n = counts before after (feed a e) t f p q n
 
 pub counts-last : (es : List Entry) (k : Key) (family : ℕ) → CountsLast es k family
 unfolding accountsOf
 counts-last es k family =
     record {
-      last = λ before after f e p q n. rw e (counts k family before after zeroAccounts f p q n);
+      last = λ before after t f e p q n. rw e (counts k family before after zeroAccounts t f p q n);
       none = λ n. leaves-all k family es zeroAccounts n;
     }

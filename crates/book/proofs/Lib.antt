@@ -29,8 +29,11 @@ pub mod OneBook
 pub mod FilingOrder
 pub mod Amendments
 pub mod LastFigures
+pub mod OwnStandards
 pub mod Restated
 pub mod InPlaceWalk
+pub mod TableWalk
+pub mod HandedBook
 pub mod LentWalk
 pub mod DispatchWalk
 pub mod TotalLaws

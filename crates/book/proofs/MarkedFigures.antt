@@ -4,6 +4,8 @@ use mathlib.Core.Path.{_≡_, refl, _∙_, ap}
 use native.Mathlib.Omega.{arith}
 use lib.IntN.{pos}
 use Rattle.figuring.specs.Standards.{standardFor, tractor, printedFor, isAbsent}
+use Rattle.figuring.specs.Tables.{Table, builtIn, ordinaryIn}
+use Rattle.figuring.proofs.TableLaws.{built-in-accepted, as-printed}
 use Rattle.figuring.specs.Editions.{noEdition}
 use Rattle.figuring.specs.Parts.{withinLimits, between}
 use Rattle.figuring.specs.Netting.{earnedOf}
@@ -13,7 +15,7 @@ use Rattle.book.specs.Ledger.{key, figureAt, marked, cellSum}
 use Rattle.book.specs.Soundness.{sound}
 use Rattle.book.specs.Refusals.{refusalIn}
 use Rattle.book.specs.Postings.{freshBook, stored, closeDone, earnedBy}
-use Rattle.book.specs.Rules.{posted, table, headRows, ownRows, done, fileRows, closeRows}
+use Rattle.book.specs.Rules.{posted, rowsFor, headRows, ownRows, done, fileRows, closeRows}
 use Rattle.book.specs.Demand3.{isAccepted}
 use Rattle.book.specs.Companions.{Sized}
 use Rattle.book.specs.Marked.{MarkedFigures, lastOpen, onePart, twoParts}
@@ -46,51 +48,55 @@ two-earned : earnedBy twoParts 0 ≡ 1
 unfolding twoParts onePart stored freshBook cellSum sumBelowℤ earnedOf
 two-earned = ap earnedOf (Figuring.marked-figures .P7)
 
-close-two : posted twoParts (Call.Close 2014) ≡ closeDone twoParts
-unfolding posted table headRows ownRows closeRows done twoParts onePart stored freshBook
+close-two : posted builtIn twoParts (Call.Close 2014) ≡ closeDone twoParts
+unfolding posted rowsFor headRows ownRows closeRows done twoParts onePart stored freshBook
 close-two = rw (is-sound twoParts two-sound)
 
-two-taken : isAccepted (posted twoParts (Call.Close 2014) .answer) ≡ true
+two-taken : isAccepted (posted builtIn twoParts (Call.Close 2014) .answer) ≡ true
 unfolding closeDone isAccepted
 two-taken = ap (λ (p : Posted). isAccepted (p .answer)) close-two
 
-two-lot : figureAt (posted twoParts (Call.Close 2014) .book .lots) (key 0 0 2014) ≡ 1
+two-lot : figureAt (posted builtIn twoParts (Call.Close 2014) .book .lots) (key 0 0 2014) ≡ 1
 unfolding closeDone twoParts onePart stored freshBook
 two-lot =
     ap (λ (p : Posted). figureAt (p .book .lots) (key 0 0 2014)) close-two
     ∙ netted-in 2014 (earnedBy twoParts) (twoParts .lots) (key 0 0 2014) (two-sized .lots) (omega arith) refl ∙ two-earned
 
 -- ---- P12: the book after the last close is sound by the laws, and its open year is 2038
-close-last : posted lastOpen (Call.Close 2037) ≡ closeDone lastOpen
-unfolding posted table headRows ownRows closeRows done lastOpen
+close-last : posted builtIn lastOpen (Call.Close 2037) ≡ closeDone lastOpen
+unfolding posted rowsFor headRows ownRows closeRows done lastOpen
 close-last = rw last-sound
 
-close-taken : isAccepted (posted lastOpen (Call.Close 2037) .answer) ≡ true
+close-taken : isAccepted (posted builtIn lastOpen (Call.Close 2037) .answer) ≡ true
 unfolding closeDone isAccepted
 close-taken = ap (λ (p : Posted). isAccepted (p .answer)) close-last
 
-all-closed : posted lastOpen (Call.Close 2037) .book .«open_year» ≡ 2038
+all-closed : posted builtIn lastOpen (Call.Close 2037) .book .«open_year» ≡ 2038
 unfolding closeDone lastOpen
 all-closed = ap (λ (p : Posted). p .book .«open_year») close-last
 
 refused-by-5 :
-    (b : Book) → sound b ≡ true → b .«open_year» ≡ 2038 → refusalIn (posted b (Call.Close 2038) .answer) ≡ 5
-unfolding posted table headRows ownRows closeRows refusalIn
+    (b : Book) → sound b ≡ true → b .«open_year» ≡ 2038 → refusalIn (posted builtIn b (Call.Close 2038) .answer) ≡ 5
+unfolding posted rowsFor headRows ownRows closeRows refusalIn
 refused-by-5 b s y = rw (s, y)
 
-close-refused : refusalIn (posted (posted lastOpen (Call.Close 2037) .book) (Call.Close 2038) .answer) ≡ 5
+close-refused : refusalIn (posted builtIn (posted builtIn lastOpen (Call.Close 2037) .book) (Call.Close 2038) .answer) ≡ 5
 close-refused =
-    refused-by-5 (posted lastOpen (Call.Close 2037) .book)
-    (keeps-sound lastOpen (Call.Close 2037) last-sized last-sound) all-closed
+    refused-by-5 (posted builtIn lastOpen (Call.Close 2037) .book)
+    (keeps-sound builtIn lastOpen (Call.Close 2037) last-sized last-sound) all-closed
 
 -- ---- all of them
 pub marked-figures : MarkedFigures
-unfolding posted table headRows ownRows fileRows done stored freshBook isAccepted refusalIn marked standardFor tractor printedFor isAbsent noEdition withinLimits between
+unfolding posted rowsFor headRows ownRows fileRows done stored freshBook isAccepted refusalIn marked standardFor tractor printedFor isAbsent noEdition withinLimits between
 marked-figures =
     record {
       figuring = Figuring.marked-figures;
       P7 = (two-taken, two-lot);
-      P10 = (rw fresh-sound, rw fresh-sound, rw fresh-sound);
-      P11 = (rw fresh-sound, rw fresh-sound);
+      P10 = (
+        rw (fresh-sound, built-in-accepted, as-printed 3 1 2014),
+        rw (fresh-sound, built-in-accepted, as-printed 3 1 2014),
+        rw (fresh-sound, built-in-accepted, as-printed 3 1 2014),
+      );
+      P11 = (rw (fresh-sound, built-in-accepted, as-printed 3 1 2014), rw (fresh-sound, built-in-accepted, as-printed 3 1 2014));
       P12 = (close-taken, close-refused);
     }

@@ -7,6 +7,7 @@ use mathlib.Core.Path.{_≡_, refl, _∙_, ap}
 use native.Mathlib.Omega.{arith}
 use lib.ListN.{length}
 use Rattle.figuring.specs.Years.{firstYear}
+use Rattle.figuring.specs.Tables.{Table}
 use Rattle.book.specs.Sizes.{sets, years, places}
 use Rattle.book.specs.Ledger.{Key, In, figureAt, lower, raise}
 use Rattle.book.specs.Accounts.{Accounts, move, only}
@@ -86,26 +87,27 @@ trade-sound b t z g =
     })
 
 trade-agrees :
-    (b : Book) (a : Accounts) (t : Trade) → Agree b a → Tradable b t → Agree (tradeDone b t .book) (move a (Call.Trade t))
+    (t : Table) (b : Book) (a : Accounts) (x : Trade) → Agree b a → Tradable b x
+    → Agree (tradeDone b x .book) (move t a (Call.Trade x))
 unfolding tradeDone only
-trade-agrees b a t h g =
-    let paid = tied-out (h .lots) (sellerLot t) (t .mg) (g .seller .lot) (g .seller .enough) in
-    agree-moved _ h (tied-as (tied-in paid (buyerLot t) (t .mg) (g .buyer)) _ _ (λ k. omega arith) (λ k. omega arith))
+trade-agrees t b a x h g =
+    let paid = tied-out (h .lots) (sellerLot x) (x .mg) (g .seller .lot) (g .seller .enough) in
+    agree-moved _ h (tied-as (tied-in paid (buyerLot x) (x .mg) (g .buyer)) _ _ (λ k. omega arith) (λ k. omega arith))
     (tied-as (h .shortages) _ _ (λ k. omega arith) (λ k. omega arith))
 
-pub trade-lawful : (b : Book) (t : Trade) → Tradable b t → Lawful b (Call.Trade t)
+pub trade-lawful : (t : Table) (b : Book) (x : Trade) → Tradable b x → Lawful t b (Call.Trade x)
 unfolding done tradeDone isAccepted
-trade-lawful b t g =
+trade-lawful t b x g =
     record {
       answered = refl;
       onward = omega arith;
       sized = λ z. moved-sized z (simp (length-raise, length-lower) (z .lots)) (z .shortages);
-      sound = λ z. trade-sound b t z g;
-      agrees = λ a h. trade-agrees b a t h g;
+      sound = λ z. trade-sound b x z g;
+      agrees = λ a h. trade-agrees t b a x h g;
       lot = λ k i o.
-          raise-elsewhere (lower (b .lots) (sellerLot t) (t .mg)) (buyerLot t) k (t .mg) (g .buyer) i
+          raise-elsewhere (lower (b .lots) (sellerLot x) (x .mg)) (buyerLot x) k (x .mg) (g .buyer) i
           (omega (arith, o, g .seller .live))
-          ∙ lower-elsewhere (b .lots) (sellerLot t) k (t .mg) (g .seller .lot) i (omega (arith, o, g .seller .live));
+          ∙ lower-elsewhere (b .lots) (sellerLot x) k (x .mg) (g .seller .lot) i (omega (arith, o, g .seller .live));
       shortage = λ k i o. refl;
     }
 
@@ -123,24 +125,24 @@ apply-sound b p z g =
     })
 
 apply-agrees :
-    (b : Book) (a : Accounts) (p : Application) → Agree b a → Applicable b p
-    → Agree (applicationDone b p .book) (move a (Call.Apply p))
+    (t : Table) (b : Book) (a : Accounts) (p : Application) → Agree b a → Applicable b p
+    → Agree (applicationDone b p .book) (move t a (Call.Apply p))
 unfolding applicationDone only
-apply-agrees b a p h g =
+apply-agrees t b a p h g =
     let paid = tied-out (h .lots) (appliedLot p) (p .mg) (g .payer .lot) (g .payer .enough) in
     let less = tied-out (h .shortages) (coveredShortage p) (p .mg) (g .covered) (g .enough) in
     agree-moved _ h (tied-as paid _ _ (λ k. omega arith) (λ k. omega arith))
     (tied-as less _ _ (λ k. omega arith) (λ k. omega arith))
 
-pub apply-lawful : (b : Book) (p : Application) → Applicable b p → Lawful b (Call.Apply p)
+pub apply-lawful : (t : Table) (b : Book) (p : Application) → Applicable b p → Lawful t b (Call.Apply p)
 unfolding done applicationDone isAccepted
-apply-lawful b p g =
+apply-lawful t b p g =
     record {
       answered = refl;
       onward = omega arith;
       sized = λ z. moved-sized z (simp length-lower (z .lots)) (simp length-lower (z .shortages));
       sound = λ z. apply-sound b p z g;
-      agrees = λ a h. apply-agrees b a p h g;
+      agrees = λ a h. apply-agrees t b a p h g;
       lot = λ k i o.
           lower-elsewhere (b .lots) (appliedLot p) k (p .mg) (g .payer .lot) i (omega (arith, o, g .payer .live));
       shortage = λ k i o.
@@ -161,23 +163,23 @@ retire-sound b p z g =
     })
 
 retire-agrees :
-    (b : Book) (a : Accounts) (p : Retirement) → Agree b a → Retirable b p
-    → Agree (retirementDone b p .book) (move a (Call.Retire p))
+    (t : Table) (b : Book) (a : Accounts) (p : Retirement) → Agree b a → Retirable b p
+    → Agree (retirementDone b p .book) (move t a (Call.Retire p))
 unfolding retirementDone only
-retire-agrees b a p h g =
+retire-agrees t b a p h g =
     let paid = tied-out (h .lots) (retiredLot p) (p .mg) (g .payer .lot) (g .payer .enough) in
     agree-moved _ h (tied-as paid _ _ (λ k. omega arith) (λ k. omega arith))
     (tied-as (h .shortages) _ _ (λ k. omega arith) (λ k. omega arith))
 
-pub retire-lawful : (b : Book) (p : Retirement) → Retirable b p → Lawful b (Call.Retire p)
+pub retire-lawful : (t : Table) (b : Book) (p : Retirement) → Retirable b p → Lawful t b (Call.Retire p)
 unfolding done retirementDone isAccepted
-retire-lawful b p g =
+retire-lawful t b p g =
     record {
       answered = refl;
       onward = omega arith;
       sized = λ z. moved-sized z (simp length-lower (z .lots)) (z .shortages);
       sound = λ z. retire-sound b p z g;
-      agrees = λ a h. retire-agrees b a p h g;
+      agrees = λ a h. retire-agrees t b a p h g;
       lot = λ k i o.
           lower-elsewhere (b .lots) (retiredLot p) k (p .mg) (g .payer .lot) i (omega (arith, o, g .payer .live));
       shortage = λ k i o. refl;

@@ -11,14 +11,11 @@ use lib.IntN.{pos}
 use Rattle.book.specs.Sizes.{makers, sets, families}
 use Rattle.book.specs.Ledger.{marked}
 use Rattle.book.specs.Postings.{withFamilies}
-use Rattle.book.specs.Rules.{posted}
 use Rattle.book.specs.Demand3.{isAccepted}
 use Rattle.book.specs.Companions.{Sized}
 use Rattle.book.specs.Orders.{without}
-use Rattle.book.specs.FilingOrder.{Family, familyOf, SameOf, Taken, MadeBy}
+use Rattle.book.specs.FilingOrder.{Family, Lodged, namedBy, lodged, SameOf, Taken, MadeBy}
 use Rattle.book.specs.declared.ledger.Book.{Book}
-use Rattle.book.specs.declared.kinds.Call.{Call}
-use Rattle.book.specs.declared.kinds.Filing.{Filing}
 use Rattle.book.proofs.MarkLaws.{same-mark}
 use Rattle.book.proofs.AmongLaws.{first, later, none-among, Stands, is-first, in-rest, stands}
 
@@ -32,23 +29,23 @@ family-same j k = go (ℕ-discrete (j .maker) (k .maker)) (ℕ-discrete (j .set)
     go (no m) s n = no (λ e. m (ap (λ (x : Family). x .maker) e))
 
 -- a filing of the list that is taken and names a family: there is one, or there is none
-abbrev Named : Book → List Filing → Family → Type 0
-Named b fs k = (f : Filing) × Taken b fs f × (familyOf f ≡ k)
+abbrev Named : Book → List Lodged → Family → Type 0
+Named b fs k = (f : Lodged) × Taken b fs f × (namedBy f ≡ k)
 
-named : (b : Book) (fs : List Filing) (k : Family) → Dec (Named b fs k)
+named : (b : Book) (fs : List Lodged) (k : Family) → Dec (Named b fs k)
 named b [] k = no (λ h. none-among refl (h .1 .among))
-named b (f ∷ fs) k = go (Bool-discrete (isAccepted (posted b (Call.File f) .answer)) true) (family-same (familyOf f) k) (named b fs k)
+named b (f ∷ fs) k = go (Bool-discrete (isAccepted (lodged b f .answer)) true) (family-same (namedBy f) k) (named b fs k)
   where
     -- a filing that names k is f, or one of the rest
-    neither : (Taken b (f ∷ fs) f → familyOf f ≡ k → ⊥) → (Named b fs k → ⊥) → Named b (f ∷ fs) k → ⊥
+    neither : (Taken b (f ∷ fs) f → namedBy f ≡ k → ⊥) → (Named b fs k → ⊥) → Named b (f ∷ fs) k → ⊥
     neither m n h = at (stands (h .1 .among))
       where
         at : Stands (h .0) f fs (without (h .1 .among)) → ⊥
-        at (is-first e w) = m (subst (Taken b (f ∷ fs)) e (h .1)) (sym (ap familyOf e) ∙ h .2)
+        at (is-first e w) = m (subst (Taken b (f ∷ fs)) e (h .1)) (sym (ap namedBy e) ∙ h .2)
         at (in-rest q w) = n (h .0, record { among = q; accepted = h .1 .accepted }, h .2)
 
     go :
-        Dec (isAccepted (posted b (Call.File f) .answer) ≡ true) → Dec (familyOf f ≡ k) → Dec (Named b fs k)
+        Dec (isAccepted (lodged b f .answer) ≡ true) → Dec (namedBy f ≡ k) → Dec (Named b fs k)
         → Dec (Named b (f ∷ fs) k)
     go a s (yes h) = yes (h .0, record { among = later f (h .1 .among); accepted = h .1 .accepted }, h .2)
     go (yes a) (yes s) (no n) = yes (f, record { among = first f fs; accepted = a }, s)
@@ -56,7 +53,7 @@ named b (f ∷ fs) k = go (Bool-discrete (isAccepted (posted b (Call.File f) .an
     go (no a) s (no n) = no (neither (λ t e. a (t .accepted)) n)
 
 -- two books that the same filings make of one
-module _ (b : Book) (fs : List Filing) (x y : Book) (sx : Sized x) (sy : Sized y) (mx : MadeBy b fs x) (my : MadeBy b fs y) where
+module _ (b : Book) (fs : List Lodged) (x y : Book) (sx : Sized x) (sy : Sized y) (mx : MadeBy b fs x) (my : MadeBy b fs y) where
   same-family : (k : Family) → k .maker < makers → k .set < sets → SameOf x y k
   same-family k hm hs = go (named b fs k)
     where

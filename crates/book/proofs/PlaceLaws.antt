@@ -12,12 +12,14 @@ use mir.Val.{toZ, ofZ}
 use Rattle.figuring.specs.Years.{firstYear}
 use Rattle.figuring.proofs.SignedLaws.{heard}
 use Rattle.book.specs.Sizes.{makers, sets, families, years, lotsMost}
-use Rattle.book.specs.Below.{allBelow, sumBelow}
+use Rattle.figuring.specs.Below.{allBelow}
+use Rattle.book.specs.Below.{sumBelow}
 use Rattle.book.specs.Ledger.{key, cell, figureAt, partAt}
 use Rattle.book.specs.Soundness.{partSound, familySound, figuresSound, yearSound, cellSound, makerSound, cellsSound}
 use Rattle.book.specs.Soundness.{lotOf, totalSound, setSound, totalsSound}
 use Rattle.book.specs.declared.ledger.Book.{Book}
-use Rattle.book.proofs.BelowLaws.{all-fails, sum-more, sum-rises, sum-done}
+use Rattle.figuring.proofs.BelowLaws.{all-fails}
+use Rattle.book.proofs.BelowLaws.{sum-more, sum-rises, sum-done}
 use Rattle.figuring.proofs.BoolLaws.{first-fails, second-fails}
 
 -- where a year, counted from the first, stands

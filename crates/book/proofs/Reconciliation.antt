@@ -10,10 +10,11 @@ use native.Mathlib.Omega.{arith}
 use lib.ListN.{replicate, length-replicate}
 use lib.IntN.{pos}
 use Rattle.figuring.specs.Years.{firstYear}
+use Rattle.figuring.specs.Tables.{Table}
 use Rattle.book.specs.Sizes.{places, allParts}
 use Rattle.book.specs.Ledger.{Key, In, cell}
 use Rattle.book.specs.Postings.{freshBook, coveredShortage}
-use Rattle.book.specs.Rules.{ownRows, posted}
+use Rattle.book.specs.Rules.{Request, ownRows, posted, postedTo}
 use Rattle.book.specs.Accounts.{Accounts, Entry, asAccepted, zeroAccounts, feed, feedAll, accountsOf}
 use Rattle.book.specs.Demand3.{isAccepted, entryOf, history, bookAfter, Covers, Demand3}
 use Rattle.book.specs.declared.ledger.Book.{Book}
@@ -48,19 +49,20 @@ begins =
         }
 
 -- ---- one call
-pub keeps : (b : Book) (a : Accounts) (c : Call) → Agree b a → Agree (posted b c .book) (feed a (entryOf b c))
+pub keeps : (b : Book) (a : Accounts) (r : Request) → Agree b a → Agree (postedTo b r .book) (feed a (entryOf b r))
 unfolding feed isAccepted
-keeps b a c h =
-    by-verdict b c (λ p. Agree (p .book) (feed a (record { call = c; accepted = isAccepted (p .answer) }))) (λ r. h)
-    (λ s e. let w = lawful b c s e in rw (w .answered) (w .agrees a h))
+keeps b a r h =
+    by-verdict (r .table) b (r .call)
+    (λ p. Agree (p .book) (feed a (record { table = r .table; call = r .call; accepted = isAccepted (p .answer) }))) (λ w. h)
+    (λ s e. let w = lawful (r .table) b (r .call) s e in rw (w .answered) (w .agrees a h))
 
 -- ---- any list of calls, from any book and accounts that agree
 
 pub keeps-all :
-    (cs : List Call) (b : Book) (a : Accounts) → Agree b a → Agree (bookAfter b cs) (feedAll a (history b cs))
+    (rs : List Request) (b : Book) (a : Accounts) → Agree b a → Agree (bookAfter b rs) (feedAll a (history b rs))
 unfolding bookAfter feedAll history
 keeps-all [] b a h = h
-keeps-all (c ∷ cs) b a h = keeps-all cs (posted b c .book) (feed a (entryOf b c)) (keeps b a c h)
+keeps-all (r ∷ rs) b a h = keeps-all rs (postedTo b r .book) (feed a (entryOf b r)) (keeps b a r h)
 
 -- ---- accepted applications
 
@@ -73,35 +75,35 @@ covers-done b a p h g =
     }
 
 covers :
-    (b : Book) (a : Accounts) (p : Application) → Agree b a → isAccepted (posted b (Call.Apply p) .answer) ≡ true
-    → Covers a p
+    (t : Table) (b : Book) (a : Accounts) (p : Application) → Agree b a
+    → isAccepted (posted t b (Call.Apply p) .answer) ≡ true → Covers a p
 unfolding isAccepted ownRows
-covers b a p h =
-    by-verdict b (Call.Apply p) (λ q. isAccepted (q .answer) ≡ true → Covers a p)
-    (λ r t. absurd (let z : _≡_ {A = ℕ} 0 1 = cc in omega arith)) (λ s e t. covers-done b a p h (applicable b p s e))
+covers t b a p h =
+    by-verdict t b (Call.Apply p) (λ q. isAccepted (q .answer) ≡ true → Covers a p)
+    (λ r d. absurd (let z : _≡_ {A = ℕ} 0 1 = cc in omega arith)) (λ s e d. covers-done b a p h (applicable b p s e))
 
 pub covers-all :
-    (cs : List Call) (b : Book) (a : Accounts) → Agree b a → (before after : List Entry) (p : Application)
-    → history b cs ≡ before ++ asAccepted (Call.Apply p) ∷ after → Covers (feedAll a before) p
+    (rs : List Request) (b : Book) (a : Accounts) → Agree b a → (before after : List Entry) (t : Table) (p : Application)
+    → history b rs ≡ before ++ asAccepted t (Call.Apply p) ∷ after → Covers (feedAll a before) p
 unfolding history feedAll
-covers-all [] b a h [] after p e = absurd (let z : _≡_ {A = ℕ} 0 1 = cc in omega arith)
-covers-all [] b a h (x ∷ before) after p e = absurd (let z : _≡_ {A = ℕ} 0 1 = cc in omega arith)
-covers-all (c ∷ cs) b a h [] after p e =
-    let q : entryOf b c ≡ asAccepted (Call.Apply p) = cc in
-    let qc : c ≡ Call.Apply p = ap (λ (x : Entry). x .call) q in
-    let qa : isAccepted (posted b c .answer) ≡ true = ap (λ (x : Entry). x .accepted) q in
-    covers b a p h (rw qc at qa)
-covers-all (c ∷ cs) b a h (x ∷ before) after p e =
-    let q : entryOf b c ≡ x = cc in
-    let t : history (posted b c .book) cs ≡ before ++ asAccepted (Call.Apply p) ∷ after = cc in
-    rw (← q) (covers-all cs (posted b c .book) (feed a (entryOf b c)) (keeps b a c h) before after p t)
+covers-all [] b a h [] after t p e = absurd (let z : _≡_ {A = ℕ} 0 1 = cc in omega arith)
+covers-all [] b a h (x ∷ before) after t p e = absurd (let z : _≡_ {A = ℕ} 0 1 = cc in omega arith)
+covers-all (r ∷ rs) b a h [] after t p e =
+    let q : entryOf b r ≡ asAccepted t (Call.Apply p) = cc in
+    let qc : r .call ≡ Call.Apply p = ap (λ (x : Entry). x .call) q in
+    let qa : isAccepted (postedTo b r .answer) ≡ true = ap (λ (x : Entry). x .accepted) q in
+    covers (r .table) b a p h (rw qc at qa)
+covers-all (r ∷ rs) b a h (x ∷ before) after t p e =
+    let q : entryOf b r ≡ x = cc in
+    let w : history (postedTo b r .book) rs ≡ before ++ asAccepted t (Call.Apply p) ∷ after = cc in
+    rw (← q) (covers-all rs (postedTo b r .book) (feed a (entryOf b r)) (keeps b a r h) before after t p w)
 
 -- ---- demand 3
 
-pub demand3 : (cs : List Call) → Demand3 cs
+pub demand3 : (rs : List Request) → Demand3 rs
 unfolding accountsOf
-demand3 cs =
+demand3 rs =
     record {
-      reconciled = agree-reconciled _ _ (keeps-all cs freshBook zeroAccounts begins);
-      covers = covers-all cs freshBook zeroAccounts begins;
+      reconciled = agree-reconciled _ _ (keeps-all rs freshBook zeroAccounts begins);
+      covers = covers-all rs freshBook zeroAccounts begins;
     }

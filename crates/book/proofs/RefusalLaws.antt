@@ -4,6 +4,7 @@ use mathlib.Core.Bool.{true, false, false≢true, true≢false}
 use mathlib.Core.Path.{_≡_, refl, sym, _∙_}
 use native.Mathlib.Omega.{arith}
 use lib.IntN.{pos}
+use Rattle.figuring.specs.Tables.{Table}
 use Rattle.book.specs.Refusals.{numberOf, refusalIn, valuesIn, resultIn}
 use Rattle.book.specs.Rules.{posted}
 use Rattle.book.specs.Demand3.{isAccepted}
@@ -17,7 +18,7 @@ use Rattle.book.specs.declared.answers.Refusal.the-variants.{NotAForm, U
 use Rattle.book.specs.declared.answers.Refusal.the-variants.{YearNotOpen, NoStandard, UnknownFamily, OutOfLimits}
 use Rattle.book.specs.declared.answers.Refusal.the-variants.{AlreadyFiled, VintageNotLive, ZeroAmount, SameMaker}
 use Rattle.book.specs.declared.answers.Refusal.the-variants.{HasShortage, NoOpenShortage, AboveLot, AboveShortage}
-use Rattle.book.specs.declared.answers.Refusal.the-variants.{NoEdition, NotFiled}
+use Rattle.book.specs.declared.answers.Refusal.the-variants.{NoEdition, NotFiled, NotATable, UnfitTable}
 use Rattle.book.proofs.TableLaws.{by-verdict}
 use Rattle.book.proofs.CallLaws.{lawful}
 
@@ -40,6 +41,8 @@ number-above-0 AboveLot = omega arith
 number-above-0 AboveShortage = omega arith
 number-above-0 NoEdition = omega arith
 number-above-0 NotFiled = omega arith
+number-above-0 NotATable = omega arith
+number-above-0 UnfitTable = omega arith
 
 -- ---- what an answer says of itself
 pub accepted-number : (a : Answer) → isAccepted a ≡ true → refusalIn a ≡ 0
@@ -64,14 +67,14 @@ refused-zeros (Closed n) e i = absurd (true≢false e)
 refused-zeros (Left m) e i = absurd (true≢false e)
 
 -- ---- what a call answers
-pub demand1 : (b : Book) (c : Call) → Demand1 b c
+pub demand1 : (t : Table) (b : Book) (c : Call) → Demand1 t b c
 unfolding isAccepted
-demand1 b c =
+demand1 t b c =
     record {
-      accepted = accepted-number (posted b c .answer);
-      numbered = refused-number (posted b c .answer);
-      zeros = refused-zeros (posted b c .answer);
+      accepted = accepted-number (posted t b c .answer);
+      numbered = refused-number (posted t b c .answer);
+      zeros = refused-zeros (posted t b c .answer);
       unchanged =
-          by-verdict b c (λ p. isAccepted (p .answer) ≡ false → p .book ≡ b) (λ r t. refl)
-          (λ s e t. absurd (true≢false (sym (lawful b c s e .answered) ∙ t)));
+          by-verdict t b c (λ p. isAccepted (p .answer) ≡ false → p .book ≡ b) (λ r a. refl)
+          (λ s e a. absurd (true≢false (sym (lawful t b c s e .answered) ∙ a)));
     }

@@ -18,21 +18,23 @@ use Rattle.figuring.specs.FiveDecimals.{finer, oldUnit, oldPartMost, restatedPa
 use Rattle.figuring.proofs.BoolLaws.{both, and-intro}
 use Rattle.figuring.proofs.SignedLaws.{abs-mul, add-mul}
 use Rattle.figuring.proofs.FineLaws.{limits-old, part-finer, bound-finer, net-finer}
+use Rattle.figuring.specs.Tables.{Table}
 use Rattle.book.specs.Sizes.{cells, families, allParts}
-use Rattle.book.specs.Below.{allBelow, countBelow, sumBelowℤ}
+use Rattle.figuring.specs.Below.{allBelow}
+use Rattle.book.specs.Below.{countBelow, sumBelowℤ}
 use Rattle.book.specs.Ledger.{partAt, cellSum}
 use Rattle.book.specs.Soundness.{sound, partSound}
 use Rattle.book.specs.Refusals.{Row, firstRefusal}
-use Rattle.book.specs.Postings.{freshBook, partFor, filingCell, stored, cellNet, netted, closeDone}
+use Rattle.book.specs.Postings.{freshBook, partFor, partBeside, filingCell, stored, cellNet, netted, closeDone}
 use Rattle.book.specs.Postings.{tradeDone, applicationDone, retirementDone}
-use Rattle.book.specs.Rules.{headRows, fileRows, ownRows, table, done, outcome, posted}
+use Rattle.book.specs.Rules.{Request, headRows, tableRows, fileRows, ownRows, rowsFor, done, outcome, posted}
 use Rattle.book.specs.FiveDecimals.{oldSound, oldLimits, oldDone, oldPosted, SideBySide, SameSessions, SoundParts}
 use Rattle.book.specs.FiveDecimals.{restatedCall, restatedBook, restatedAnswer}
 use Rattle.book.specs.declared.ledger.Book.{Book}
 use Rattle.book.specs.declared.kinds.Call.{Call}
 use Rattle.book.specs.declared.answers.Answer.{Answer}
 use Rattle.book.specs.declared.answers.Posted.{Posted}
-use Rattle.book.proofs.BelowLaws.{all-at, all-of}
+use Rattle.figuring.proofs.BelowLaws.{all-at, all-of}
 use Rattle.book.proofs.TableLaws.{alike}
 use Rattle.book.proofs.SoundnessLaws.{Sound, sound-is, is-sound, zero-is}
 
@@ -130,13 +132,20 @@ module _ (b : Book) where
       is-sound (restatedBook b) (stays-sound (sound-is b (h .0)) (λ i l. all-at OldBound allParts i l (h .1))))
 
   -- ---- refusals
-  same-rows : (c : Call) → ownRows (restatedBook b) (restatedCall c) ≡ ownRows b (oldLimits c)
+  same-beside : (t : Table) (c : Call) → tableRows t (restatedCall c) ≡ tableRows t c
+  same-beside t (Call.File f) = refl
+  same-beside t (Call.Close y) = refl
+  same-beside t (Call.Trade x) = refl
+  same-beside t (Call.Apply p) = refl
+  same-beside t (Call.Retire p) = refl
+
+  same-rows : (t : Table) (c : Call) → ownRows t (restatedBook b) (restatedCall c) ≡ ownRows t b (oldLimits c)
   unfolding ownRows fileRows
-  same-rows (Call.File f) = rw (limits-old (f .fcl) (f .cf) (f .volume) (f .life))
-  same-rows (Call.Close y) = refl
-  same-rows (Call.Trade t) = refl
-  same-rows (Call.Apply p) = refl
-  same-rows (Call.Retire p) = refl
+  same-rows t (Call.File f) = rw (limits-old (f .fcl) (f .cf) (f .volume) (f .life))
+  same-rows t (Call.Close y) = refl
+  same-rows t (Call.Trade x) = refl
+  same-rows t (Call.Apply p) = refl
+  same-rows t (Call.Retire p) = refl
 
   -- ---- what an accepted call gives
   same-net : (c : ℕ) → cellNet engineUnit (restatedBook b) c ≡ cellNet oldUnit b c
@@ -145,11 +154,11 @@ module _ (b : Book) where
       ap (netOf engineUnit) (sum-restated families (partAt (b .parts) c) (partAt (map restatedPart (b .parts)) c) (part-at (b .parts) c))
       ∙ net-finer (sumBelowℤ families (partAt (b .parts) c))
 
-  same-done : (c : Call) → done (restatedBook b) (restatedCall c) ≡ restatedPosted (oldDone b c)
-  unfolding done stored closeDone partFor tradeDone applicationDone retirementDone
-  same-done (Call.File f) =
-      rw (part-finer _ (f .fcl) (f .cf) (f .volume) (f .life), map-store (b .parts) (filingCell f * families + f .family) (partFor f))
-  same-done (Call.Close y) =
+  same-done : (t : Table) (c : Call) → done t (restatedBook b) (restatedCall c) ≡ restatedPosted (oldDone t b c)
+  unfolding done stored closeDone partBeside tradeDone applicationDone retirementDone
+  same-done t (Call.File f) =
+      rw (part-finer _ (f .fcl) (f .cf) (f .volume) (f .life), map-store (b .parts) (filingCell f * families + f .family) (partFor t f))
+  same-done t (Call.Close y) =
       λ i. record {
         answer = Answer.Closed (countBelow cells (λ c. ltb 0 (shortfallOf (same-net c i))));
         book = record {
@@ -160,32 +169,39 @@ module _ (b : Book) where
           shortages = netted (b .«open_year» - firstYear) (λ c. shortfallOf (same-net c i)) cells (b .shortages);
         };
       }
-  same-done (Call.Trade t) = refl
-  same-done (Call.Apply p) = refl
-  same-done (Call.Retire p) = refl
+  same-done t (Call.Trade x) = refl
+  same-done t (Call.Apply p) = refl
+  same-done t (Call.Retire p) = refl
 
   -- ---- a call
-  same-posted : (c : Call) → posted (restatedBook b) (restatedCall c) ≡ restatedPosted (oldPosted b c)
-  unfolding posted table oldPosted
-  same-posted c =
-      ap (λ (x : Bool). outcome (firstRefusal (headRows x ++ ownRows (restatedBook b) (restatedCall c))) (restatedBook b) after)
+  same-posted : (t : Table) (c : Call) → posted t (restatedBook b) (restatedCall c) ≡ restatedPosted (oldPosted t b c)
+  unfolding posted rowsFor oldPosted
+  same-posted t c =
+      ap
+      (λ (x : Bool). outcome (firstRefusal (headRows x (tableRows t (restatedCall c)) ++ ownRows t (restatedBook b) (restatedCall c)))
+      (restatedBook b) after)
       same-sound
-      ∙ ap (λ (xs : List Row). outcome (firstRefusal (headRows (oldSound b) ++ xs)) (restatedBook b) after) (same-rows c)
-      ∙ alike (λ p q. p ≡ restatedPosted q) (firstRefusal (headRows (oldSound b) ++ ownRows b (oldLimits c))) _ _ _ _ (λ r. refl)
-      (same-done c)
+      ∙ ap
+      (λ (beside : List Row). outcome (firstRefusal (headRows (oldSound b) beside ++ ownRows t (restatedBook b) (restatedCall c)))
+      (restatedBook b) after)
+      (same-beside t c)
+      ∙ ap (λ (xs : List Row). outcome (firstRefusal (headRows (oldSound b) (tableRows t c) ++ xs)) (restatedBook b) after) (same-rows t c)
+      ∙ alike (λ p q. p ≡ restatedPosted q) (firstRefusal (headRows (oldSound b) (tableRows t c) ++ ownRows t b (oldLimits c))) _ _ _ _ (λ r. refl)
+      (same-done t c)
     where
       after : Posted
-      after = done (restatedBook b) (restatedCall c)
+      after = done t (restatedBook b) (restatedCall c)
 
 -- ---- any list of calls
-side-by-side : (b : Book) (cs : List Call) → SideBySide b (restatedBook b) cs
+side-by-side : (b : Book) (rs : List Request) → SideBySide b (restatedBook b) rs
 side-by-side b [] = refl
-side-by-side b (c ∷ cs) = (
-  refl,
-  ap (λ (p : Posted). p .answer) (same-posted b c),
-  subst (λ (d : Book). SideBySide (oldPosted b c .book) d cs) (sym (ap (λ (p : Posted). p .book) (same-posted b c)))
-      (side-by-side (oldPosted b c .book) cs),
-)
+side-by-side b (r ∷ rs) =
+    let same = same-posted b (r .table) (r .call) in
+    let after = oldPosted (r .table) b (r .call) .book in (
+      refl,
+      ap (λ (p : Posted). p .answer) same,
+      subst (λ (d : Book). SideBySide after d rs) (sym (ap (λ (p : Posted). p .book) same)) (side-by-side after rs),
+    )
 
 fresh-restated : restatedBook freshBook ≡ freshBook
 unfolding freshBook
@@ -194,6 +210,6 @@ fresh-restated = rw (map-none allParts)
 pub same-sessions : SameSessions
 same-sessions =
     record {
-      fresh = λ cs. subst (λ (d : Book). SideBySide freshBook d cs) fresh-restated (side-by-side freshBook cs);
+      fresh = λ rs. subst (λ (d : Book). SideBySide freshBook d rs) fresh-restated (side-by-side freshBook rs);
       any = side-by-side;
     }

@@ -11,11 +11,13 @@ use Rattle.figuring.specs.Years.{firstYear}
 use Rattle.figuring.specs.Parts.{partMost}
 use Rattle.figuring.proofs.BoolLaws.{both, and-intro}
 use Rattle.book.specs.Sizes.{makers, sets, cells, families, years, allClosed, shortageMost, lotsMost}
-use Rattle.book.specs.Below.{allBelow, sumBelow}
+use Rattle.figuring.specs.Below.{allBelow}
+use Rattle.book.specs.Below.{sumBelow}
 use Rattle.book.specs.Ledger.{Key, key, In, figureAt, cell, marked, partAt}
 use Rattle.book.specs.Soundness.{sound, yearInRange, cellsSound, makerSound, cellSound, familySound, partSound, yearSound, figuresSound, totalsSound, setSound, totalSound, lotOf}
 use Rattle.book.specs.declared.ledger.Book.{Book}
-use Rattle.book.proofs.BelowLaws.{all-at, all-of, sum-at}
+use Rattle.figuring.proofs.BelowLaws.{all-at, all-of}
+use Rattle.book.proofs.BelowLaws.{sum-at}
 
 pub record Sound (b : Book) : Type 0 where
   pub low : firstYear ≤ b .«open_year»

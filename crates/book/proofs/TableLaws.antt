@@ -6,9 +6,10 @@ use mathlib.Core.Path.{_≡_, refl, sym, _∙_, ap, subst}
 use native.Mathlib.Omega.{arith}
 use borrow.Author.Tests.{not-false}
 use lib.ListN.{drop}
+use Rattle.figuring.specs.Tables.{Table}
 use Rattle.book.specs.Soundness.{sound}
 use Rattle.book.specs.Refusals.{Row, orElse, firstRefusal}
-use Rattle.book.specs.Rules.{posted, table, headRows, ownRows, done, outcome, refusedWith}
+use Rattle.book.specs.Rules.{posted, rowsFor, headRows, tableRows, ownRows, done, outcome, refusedWith}
 use Rattle.book.specs.declared.ledger.Book.{Book}
 use Rattle.book.specs.declared.kinds.Call.{Call}
 use Rattle.book.specs.declared.answers.Posted.{Posted}
@@ -80,47 +81,49 @@ alike R Accepted b d p q onRefusal onDone = onDone
 alike R (Refuse r) b d p q onRefusal onDone = onRefusal r
 
 -- ---- the head, and then the call's own rows
-module _ (b : Book) where
-  pub head-sound : firstRefusal (headRows (sound b)) ≡ Accepted → sound b ≡ true
-  unfolding headRows
-  head-sound e = not-false (sound b) (cleared (headRows (sound b)) e .0)
+pub head-sound : (b : Book) (xs : List Row) → firstRefusal (headRows (sound b) xs) ≡ Accepted → sound b ≡ true
+unfolding headRows
+head-sound b xs e = not-false (sound b) (cleared (headRows (sound b) xs) e .0)
 
-  pub sound-head : sound b ≡ true → firstRefusal (headRows (sound b)) ≡ Accepted
-  unfolding headRows
-  sound-head s = rw s
+-- a sound book leaves the head to what stands beside the call
+pub sound-head : (b : Book) (xs : List Row) → sound b ≡ true → firstRefusal (headRows (sound b) xs) ≡ firstRefusal xs
+unfolding headRows
+sound-head b xs s = rw s
 
-module _ (b : Book) (c : Call) where
+module _ (t : Table) (b : Book) (c : Call) where
+  abbrev head : List Row
+  head = headRows (sound b) (tableRows t c)
+
   -- a head that refuses decides
-  pub head-refuses : {r : Refusal} → firstRefusal (headRows (sound b)) ≡ Refuse r → posted b c ≡ refusedWith b r
-  unfolding posted table
-  head-refuses e = ap (λ (v : Verdict). outcome v b (done b c)) (stops (headRows (sound b)) (ownRows b c) _ e)
+  pub head-refuses : {r : Refusal} → firstRefusal head ≡ Refuse r → posted t b c ≡ refusedWith b r
+  unfolding posted rowsFor
+  head-refuses e = ap (λ (v : Verdict). outcome v b (done t b c)) (stops head (ownRows t b c) _ e)
 
   -- one that accepts leaves the call to its own rows
   pub own-decide :
-      {v : Verdict} → firstRefusal (headRows (sound b)) ≡ Accepted → firstRefusal (ownRows b c) ≡ v
-      → posted b c ≡ outcome v b (done b c)
-  unfolding posted table
-  own-decide h e =
-      ap (λ (v : Verdict). outcome v b (done b c)) (passes (headRows (sound b)) (ownRows b c) h ∙ e)
+      {v : Verdict} → firstRefusal head ≡ Accepted → firstRefusal (ownRows t b c) ≡ v
+      → posted t b c ≡ outcome v b (done t b c)
+  unfolding posted rowsFor
+  own-decide h e = ap (λ (v : Verdict). outcome v b (done t b c)) (passes head (ownRows t b c) h ∙ e)
 
   -- what holds of the refusals of either, and of what an accepted call gives, holds of what a call gives
   pub by-rows :
       (P : Posted → Type 0)
-      → ((r : Refusal) → firstRefusal (headRows (sound b)) ≡ Refuse r → P (refusedWith b r))
-      → ((r : Refusal) → firstRefusal (ownRows b c) ≡ Refuse r → P (refusedWith b r))
-      → (sound b ≡ true → firstRefusal (ownRows b c) ≡ Accepted → P (done b c)) → P (posted b c)
-  by-rows P onHead onOwn onDone = head (firstRefusal (headRows (sound b))) refl
+      → ((r : Refusal) → firstRefusal head ≡ Refuse r → P (refusedWith b r))
+      → ((r : Refusal) → firstRefusal (ownRows t b c) ≡ Refuse r → P (refusedWith b r))
+      → (sound b ≡ true → firstRefusal (ownRows t b c) ≡ Accepted → P (done t b c)) → P (posted t b c)
+  by-rows P onHead onOwn onDone = at-head (firstRefusal head) refl
     where
-      own : (v : Verdict) → firstRefusal (headRows (sound b)) ≡ Accepted → firstRefusal (ownRows b c) ≡ v → P (posted b c)
-      own Accepted h e = subst P (sym (own-decide h e)) (onDone (head-sound b h) e)
+      own : (v : Verdict) → firstRefusal head ≡ Accepted → firstRefusal (ownRows t b c) ≡ v → P (posted t b c)
+      own Accepted h e = subst P (sym (own-decide h e)) (onDone (head-sound b (tableRows t c) h) e)
       own (Refuse r) h e = subst P (sym (own-decide h e)) (onOwn r e)
 
-      head : (v : Verdict) → firstRefusal (headRows (sound b)) ≡ v → P (posted b c)
-      head Accepted e = own (firstRefusal (ownRows b c)) e refl
-      head (Refuse r) e = subst P (sym (head-refuses e)) (onHead r e)
+      at-head : (v : Verdict) → firstRefusal head ≡ v → P (posted t b c)
+      at-head Accepted e = own (firstRefusal (ownRows t b c)) e refl
+      at-head (Refuse r) e = subst P (sym (head-refuses e)) (onHead r e)
 
   -- the same where the refusals need not be told apart
   pub by-verdict :
       (P : Posted → Type 0) → ((r : Refusal) → P (refusedWith b r))
-      → (sound b ≡ true → firstRefusal (ownRows b c) ≡ Accepted → P (done b c)) → P (posted b c)
+      → (sound b ≡ true → firstRefusal (ownRows t b c) ≡ Accepted → P (done t b c)) → P (posted t b c)
   by-verdict P onRefusal onDone = by-rows P (λ r e. onRefusal r) (λ r e. onRefusal r) onDone

@@ -1,11 +1,12 @@
 -- Document 01, "Accounts": fed, in list order, the calls' arguments other than the book and, of each answer, only
--- whether it was a refusal. The types show it: an entry is a call and a Bool, and nothing here takes a book.
+-- whether it was a refusal. The types show it: an entry is a call, its table and a Bool, and nothing here takes a book.
 use Prim.Native.Nat.{ℕ, _+_}
 use mathlib.Core.Bool.{Bool, true, false, cond, _&&_}
 use mathlib.Core.List.{List, [], _∷_}
 use lib.Dec.{eqb}
 use lib.IntN.{ℤ, pos}
 use Rattle.figuring.specs.Units.{engineUnit}
+use Rattle.figuring.specs.Tables.{Table}
 use Rattle.figuring.specs.Netting.{netOf, earnedOf, shortfallOf}
 use Rattle.book.specs.Sizes.{families}
 use Rattle.book.specs.Below.{sumBelowℤ}
@@ -13,14 +14,15 @@ use Rattle.book.specs.Ledger.{Key}
 use Rattle.book.specs.Postings.{partFor, filingKey, sellerLot, buyerLot, appliedLot, coveredShortage, retiredLot}
 use Rattle.book.specs.declared.kinds.Call.{Call}
 
--- a call's arguments, and whether it was accepted: "answered without" a refusal
+-- a call's arguments, the table that it is handed among them, and whether it was accepted: "answered without" a refusal
 pub record Entry : Type 0 where
+  pub table : Table
   pub call : Call
   pub accepted : Bool
 
 -- a call entered as accepted
-abbrev pub asAccepted : Call → Entry
-asAccepted c = record { call = c; accepted = true }
+abbrev pub asAccepted : Table → Call → Entry
+asAccepted t c = record { table = t; call = c; accepted = true }
 
 -- what trades, applications and retirements add to, in Mg
 pub data Column : Type 0 where
@@ -86,19 +88,19 @@ inYear y v f j = cond (eqb (j .year) y) (v j) (f j)
 abbrev pub withMg : Accounts → (Column → Key → ℕ) → Accounts
 withMg a g = record { last = a .last; earned = a .earned; shortfall = a .shortfall; mg = g }
 
-abbrev pub move : Accounts → Call → Accounts
+abbrev pub move : Table → Accounts → Call → Accounts
 -- "its part, figured from its own arguments, is added to the sum of its maker, set and year"; of a filing and its
 -- amendments the last: "a family counts with its last accepted figures of that year"
-move a (Call.File f) =
+move t a (Call.File f) =
     record {
-      last = put (filingKey f) (f .family) (partFor f) (a .last);
+      last = put (filingKey f) (f .family) (partFor t f) (a .last);
       earned = a .earned;
       shortfall = a .shortfall;
       mg = a .mg;
     }
 -- "for every maker and set the sum of that year is rounded as a close rounds. Above zero it becomes earned; below zero,
 -- without its sign, shortfall"
-move a (Call.Close y) =
+move t a (Call.Close y) =
     record {
       last = a .last;
       earned = inYear y (earnedAt a) (a .earned);
@@ -106,11 +108,11 @@ move a (Call.Close y) =
       mg = a .mg;
     }
 -- "its Mg are added to sold of the from maker and to bought of the to maker, in its set and vintage"
-move a (Call.Trade t) = withMg a (add bought (buyerLot t) (t .mg) (add sold (sellerLot t) (t .mg) (a .mg)))
+move t a (Call.Trade x) = withMg a (add bought (buyerLot x) (x .mg) (add sold (sellerLot x) (x .mg) (a .mg)))
 -- "its Mg are added to applied of its maker, set and vintage and to covered of its maker, set and year"
-move a (Call.Apply p) = withMg a (add covered (coveredShortage p) (p .mg) (add applied (appliedLot p) (p .mg) (a .mg)))
+move t a (Call.Apply p) = withMg a (add covered (coveredShortage p) (p .mg) (add applied (appliedLot p) (p .mg) (a .mg)))
 -- "its Mg are added to retired of its maker, set and vintage"
-move a (Call.Retire p) = withMg a (add retired (retiredLot p) (p .mg) (a .mg))
+move t a (Call.Retire p) = withMg a (add retired (retiredLot p) (p .mg) (a .mg))
 
 -- "Refused: nothing moves."
 abbrev pub whenAccepted : Bool → Accounts → Accounts → Accounts
@@ -118,7 +120,7 @@ whenAccepted true moved before = moved
 whenAccepted false moved before = before
 
 unfoldable pub feed : Accounts → Entry → Accounts
-feed a e = whenAccepted (e .accepted) (move a (e .call)) a
+feed a e = whenAccepted (e .accepted) (move (e .table) a (e .call)) a
 
 unfoldable pub feedAll : Accounts → List Entry → Accounts
 feedAll a [] = a

@@ -7,6 +7,7 @@ use mathlib.Core.Path.{_≡_}
 use lib.Dec.{eqb}
 use lib.ListN.{getD, set as store}
 use lib.IntN.{pos}
+use Rattle.figuring.specs.Tables.{Table}
 use Rattle.book.specs.Filings.{withAmends}
 use Rattle.book.specs.Sizes.{families}
 use Rattle.book.specs.Ledger.{Key, filedIn}
@@ -25,25 +26,25 @@ use Rattle.book.specs.declared.answers.Answer.{Answer}
 use Rattle.book.specs.declared.answers.Posted.{Posted}
 
 -- the same fields, put to a book as a filing and as an amendment
-abbrev pub filed : Book → Filing → Posted
-filed b f = posted b (Call.File (withAmends false f))
+abbrev pub filed : Table → Book → Filing → Posted
+filed t b f = posted t b (Call.File (withAmends false f))
 
-abbrev pub amended : Book → Filing → Posted
-amended b f = posted b (Call.File (withAmends true f))
+abbrev pub amended : Table → Book → Filing → Posted
+amended t b f = posted t b (Call.File (withAmends true f))
 
 -- ---- what an accepted amendment does
 
 -- "replaces the part of a family already filed in the open year; it returns the new part and the unchanged count". All
 -- else in the book, the marks among it, is as it was.
-abbrev pub replaced : Book → Filing → Posted
-replaced b f =
+abbrev pub replaced : Table → Book → Filing → Posted
+replaced t b f =
     record {
-      answer = Answer.Filed (record { 0 = partFor f }) (filedIn (getD (b .marks) (filingCell f) 0));
-      book = withFamilies b (b .marks) (store (b .parts) (filingCell f * families + f .family) (partFor f));
+      answer = Answer.Filed (record { 0 = partFor t f }) (filedIn (getD (b .marks) (filingCell f) 0));
+      book = withFamilies b (b .marks) (store (b .parts) (filingCell f * families + f .family) (partFor t f));
     }
 
-abbrev pub Amended : Book → Filing → Type 0
-Amended b f = isAccepted (amended b f .answer) ≡ true → amended b f ≡ replaced b f
+abbrev pub Amended : Table → Book → Filing → Type 0
+Amended t b f = isAccepted (amended t b f .answer) ≡ true → amended t b f ≡ replaced t b f
 
 -- ---- which are accepted
 
@@ -53,37 +54,38 @@ Amended b f = isAccepted (amended b f .answer) ≡ true → amended b f ≡ repl
 abbrev pub inPlaceOf9 : ℕ → ℕ
 inPlaceOf9 n = cond (eqb n 0) 18 (cond (eqb n 9) 0 n)
 
-abbrev pub StandsInPlaceOf9 : Book → Filing → Type 0
-StandsInPlaceOf9 b f = refusalIn (amended b f .answer) ≡ inPlaceOf9 (refusalIn (filed b f .answer))
+abbrev pub StandsInPlaceOf9 : Table → Book → Filing → Type 0
+StandsInPlaceOf9 t b f = refusalIn (amended t b f .answer) ≡ inPlaceOf9 (refusalIn (filed t b f .answer))
 
 -- ---- "a family counts with its last accepted figures of that year"
 
 -- In the book: after an accepted filing or amendment f, an amendment g of the same family is answered as it would be in
--- f's place, and leaves the book that it would leave there. So of a filing and any number of amendments the last counts,
--- as if it alone had been filed.
-abbrev pub afterIt : Book → Filing → Filing → Posted
-afterIt b f g = amended (posted b (Call.File f) .book) g
+-- f's place, and leaves the book that it would leave there, whatever tables t and u they are handed. So of a filing and
+-- any number of amendments the last counts, as if it alone had been filed.
+abbrev pub afterIt : Table → Table → Book → Filing → Filing → Posted
+afterIt t u b f g = amended u (posted t b (Call.File f) .book) g
 
-abbrev pub inItsPlace : Book → Filing → Filing → Posted
-inItsPlace b f g = posted b (Call.File (withAmends (f .amends) g))
+abbrev pub inItsPlace : Table → Book → Filing → Filing → Posted
+inItsPlace u b f g = posted u b (Call.File (withAmends (f .amends) g))
 
-pub record AsInItsPlace (b : Book) (f g : Filing) : Type 0 where
-  pub answer : afterIt b f g .answer ≡ inItsPlace b f g .answer
-  pub book : isAccepted (inItsPlace b f g .answer) ≡ true → afterIt b f g .book ≡ inItsPlace b f g .book
+pub record AsInItsPlace (t u : Table) (b : Book) (f g : Filing) : Type 0 where
+  pub answer : afterIt t u b f g .answer ≡ inItsPlace u b f g .answer
+  pub book : isAccepted (inItsPlace u b f g .answer) ≡ true → afterIt t u b f g .book ≡ inItsPlace u b f g .book
 
-abbrev pub LastCounts : Book → Filing → Filing → Type 0
-LastCounts b f g =
-    Sized b → isAccepted (posted b (Call.File f) .answer) ≡ true → familyOf f ≡ familyOf g → AsInItsPlace b f g
+abbrev pub LastCounts : Table → Table → Book → Filing → Filing → Type 0
+LastCounts t u b f g =
+    Sized b → isAccepted (posted t b (Call.File f) .answer) ≡ true → familyOf f ≡ familyOf g → AsInItsPlace t u b f g
 
 -- In the accounts: the part of a family of a year is that of the last accepted filing or amendment of it, and 0 where
 -- there is none.
 -- no entry of a history is an accepted filing or amendment of the family
 abbrev pub NoneOf : List Entry → Key → ℕ → Type 0
-NoneOf es k family = (f : Filing) → Among (asAccepted (Call.File f)) es → filingKey f ≡ k → f .family ≡ family → ⊥
+NoneOf es k family =
+    (t : Table) (f : Filing) → Among (asAccepted t (Call.File f)) es → filingKey f ≡ k → f .family ≡ family → ⊥
 
 pub record CountsLast (es : List Entry) (k : Key) (family : ℕ) : Type 0 where
   pub last :
-      (before after : List Entry) (f : Filing)
-      → es ≡ before ++ asAccepted (Call.File f) ∷ after → filingKey f ≡ k → f .family ≡ family → NoneOf after k family
-      → accountsOf es .last k family ≡ partFor f
+      (before after : List Entry) (t : Table) (f : Filing)
+      → es ≡ before ++ asAccepted t (Call.File f) ∷ after → filingKey f ≡ k → f .family ≡ family → NoneOf after k family
+      → accountsOf es .last k family ≡ partFor t f
   pub none : NoneOf es k family → accountsOf es .last k family ≡ pos 0

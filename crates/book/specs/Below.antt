@@ -1,12 +1,7 @@
--- Tests and sums over the numbers below a bound.
+-- A test and sums over the numbers below a bound.
 use Prim.Native.Nat.{ℕ, zero, suc, _+_}
-use mathlib.Core.Bool.{Bool, true, false, _&&_, _||_}
+use mathlib.Core.Bool.{Bool, true, false, _||_}
 use lib.IntN.{ℤ, pos, _+ℤ_}
-
--- p 0 and p 1 and .. and p (n - 1)
-unfoldable pub allBelow : ℕ → (ℕ → Bool) → Bool
-allBelow zero p = true
-allBelow (suc n) p = allBelow n p && p n
 
 -- p 0 or p 1 or .. or p (n - 1)
 unfoldable pub anyBelow : ℕ → (ℕ → Bool) → Bool

@@ -9,7 +9,8 @@ use Rattle.book.specs.Postings.{freshBook}
 use Rattle.book.specs.Ledger.{Key, figureAt}
 use Rattle.figuring.specs.Life.{expired, overdue}
 use Rattle.book.specs.Refusals.{refusalIn}
-use Rattle.book.specs.Rules.{posted}
+use Rattle.figuring.specs.Tables.{Table}
+use Rattle.book.specs.Rules.{Request, posted, postedTo}
 use Rattle.book.specs.Demand3.{bookAfter, isAccepted}
 use Rattle.book.specs.declared.ledger.Book.{Book}
 use Rattle.book.specs.declared.kinds.Call.{Call}
@@ -22,32 +23,32 @@ pub record Sized (b : Book) : Type 0 where
   pub shortages : length (b .shortages) ≡ places
 
 -- A call, accepted or refused, leaves a sound book sound.
-abbrev pub KeepsSound : Book → Call → Type 0
-KeepsSound b c = Sized b → sound b ≡ true → Sized (posted b c .book) × (sound (posted b c .book) ≡ true)
+abbrev pub KeepsSound : Table → Book → Call → Type 0
+KeepsSound t b c = Sized b → sound b ≡ true → Sized (posted t b c .book) × (sound (posted t b c .book) ≡ true)
 
 -- No list begun on a fresh book is ever answered by refusal 2, and its book stays sound.
-pub record NeverUnsound (cs : List Call) : Type 0 where
-  pub staysSound : sound (bookAfter freshBook cs) ≡ true
-  pub neverRefused : (c : Call) → refusalIn (posted (bookAfter freshBook cs) c .answer) ≡ 2 → ⊥
+pub record NeverUnsound (rs : List Request) : Type 0 where
+  pub staysSound : sound (bookAfter freshBook rs) ≡ true
+  pub neverRefused : (t : Table) (c : Call) → refusalIn (posted t (bookAfter freshBook rs) c .answer) ≡ 2 → ⊥
 
-abbrev pub keepIf : Bool → Call → List Call → List Call
-keepIf true c cs = c ∷ cs
-keepIf false c cs = cs
+abbrev pub keepIf : Bool → Request → List Request → List Request
+keepIf true r rs = r ∷ rs
+keepIf false r rs = rs
 
 -- a list without its refused calls
-unfoldable pub acceptedOnly : Book → List Call → List Call
+unfoldable pub acceptedOnly : Book → List Request → List Request
 acceptedOnly b [] = []
-acceptedOnly b (c ∷ cs) = keepIf (isAccepted (posted b c .answer)) c (acceptedOnly (posted b c .book) cs)
+acceptedOnly b (r ∷ rs) = keepIf (isAccepted (postedTo b r .answer)) r (acceptedOnly (postedTo b r .book) rs)
 
 -- The refused calls of a list may be struck out without changing the book.
-abbrev pub StrikeOut : Book → List Call → Type 0
-StrikeOut b cs = bookAfter b (acceptedOnly b cs) ≡ bookAfter b cs
+abbrev pub StrikeOut : Book → List Request → Type 0
+StrikeOut b rs = bookAfter b (acceptedOnly b rs) ≡ bookAfter b rs
 
 -- A lot that is expired, whatever calls follow: "the figure stays and nothing moves it". An overdue shortage "stays
 -- likewise".
-pub record Stays (b : Book) (cs : List Call) (k : Key) : Type 0 where
-  pub lot : expired (b .«open_year») (k .year) ≡ true → figureAt (bookAfter b cs .lots) k ≡ figureAt (b .lots) k
-  pub still-expired : expired (b .«open_year») (k .year) ≡ true → expired (bookAfter b cs .«open_year») (k .year) ≡ true
+pub record Stays (b : Book) (rs : List Request) (k : Key) : Type 0 where
+  pub lot : expired (b .«open_year») (k .year) ≡ true → figureAt (bookAfter b rs .lots) k ≡ figureAt (b .lots) k
+  pub still-expired : expired (b .«open_year») (k .year) ≡ true → expired (bookAfter b rs .«open_year») (k .year) ≡ true
   pub shortage :
-      overdue (b .«open_year») (k .year) ≡ true → figureAt (bookAfter b cs .shortages) k ≡ figureAt (b .shortages) k
-  pub still-overdue : overdue (b .«open_year») (k .year) ≡ true → overdue (bookAfter b cs .«open_year») (k .year) ≡ true
+      overdue (b .«open_year») (k .year) ≡ true → figureAt (bookAfter b rs .shortages) k ≡ figureAt (b .shortages) k
+  pub still-overdue : overdue (b .«open_year») (k .year) ≡ true → overdue (bookAfter b rs .«open_year») (k .year) ≡ true

@@ -4,13 +4,19 @@ use Prim.Native.Nat.{ℕ}
 use mathlib.Core.Bool.{Bool, true, false}
 use mathlib.Core.List.{List, [], _∷_}
 use mathlib.Core.Path.{_≡_}
+use lib.ListN.{replicate}
+use Rattle.figuring.specs.Tables.{Table, builtIn}
 use Rattle.book.specs.Ledger.{Key, key}
-use Rattle.book.specs.Accounts.{Accounts, Entry, asAccepted, accountsOf, bought, sold, applied, retired, covered}
+use Rattle.book.specs.Accounts.{Accounts, Entry, asAccepted as acceptedWith, accountsOf, bought, sold, applied, retired, covered}
 use Rattle.book.specs.Marked.{filingWith}
 use Rattle.book.specs.declared.kinds.Call.{Call}
 
+-- with the built-in table
+abbrev pub asAccepted : Call → Entry
+asAccepted c = acceptedWith builtIn c
+
 abbrev pub turnedDown : Call → Entry
-turnedDown c = record { call = c; accepted = false }
+turnedDown c = record { table = builtIn; call = c; accepted = false }
 
 -- the run's first filing and its close; a trade; an application to the shortage of a later year; a retirement; and a
 -- trade that was refused
@@ -25,9 +31,9 @@ example =
     ∷ []
 
 -- heavy families with figures by which 1 g/hp-hr is 1 Mg
-abbrev pub heavy : Bool → ℕ → ℕ → ℕ → ℕ → ℕ → ℕ → Entry
-heavy amends maker year vehicleUse edition family fcl =
-    asAccepted (Call.File (record {
+abbrev pub heavyCall : Bool → ℕ → ℕ → ℕ → ℕ → ℕ → ℕ → Call
+heavyCall amends maker year vehicleUse edition family fcl =
+    Call.File (record {
       amends = amends;
       maker = maker;
       set = 3;
@@ -39,7 +45,11 @@ heavy amends maker year vehicleUse edition family fcl =
       cf = 100000;
       volume = 1000;
       life = 1;
-    }))
+    })
+
+abbrev pub heavy : Bool → ℕ → ℕ → ℕ → ℕ → ℕ → ℕ → Entry
+heavy amends maker year vehicleUse edition family fcl =
+    asAccepted (heavyCall amends maker year vehicleUse edition family fcl)
 
 -- Card 5: families of 2025 that are alike but for maker, use and edition, each 1 g/hp-hr below the ordinary standard;
 -- and the close
@@ -87,6 +97,22 @@ amendments =
     ∷ asAccepted (Call.Close 2026)
     ∷ []
 
+-- Card 7: an office's own table, whose one standard is 510 for heavy vocational families. The same family with it and
+-- with the built-in one, whose standard is 506; and filed with the one, amended with the other, both ways
+abbrev pub office : Table
+office = replicate 24 (0 ∷ 0 ∷ 0 ∷ 510 ∷ 0 ∷ 0 ∷ [])
+
+abbrev pub ownTables : List Entry
+ownTables =
+    acceptedWith office (heavyCall false 0 2025 0 0 0 505)
+    ∷ acceptedWith builtIn (heavyCall false 1 2025 0 0 0 505)
+    ∷ acceptedWith office (heavyCall false 2 2025 0 0 0 505)
+    ∷ acceptedWith builtIn (heavyCall true 2 2025 0 0 0 503)
+    ∷ acceptedWith builtIn (heavyCall false 3 2025 0 0 0 505)
+    ∷ acceptedWith office (heavyCall true 3 2025 0 0 0 503)
+    ∷ asAccepted (Call.Close 2025)
+    ∷ []
+
 -- the Mg at a key in document 01's order: "earned, shortfall, bought, sold, applied, retired and covered"
 abbrev pub mgAt : Accounts → Key → List ℕ
 mgAt a k =
@@ -115,4 +141,10 @@ pub record EachAccount : Type 0 where
       × (mgAt (accountsOf amendments) (key 2 3 2025) ≡ 0 ∷ 0 ∷ 0 ∷ 0 ∷ 0 ∷ 0 ∷ 0 ∷ [])
       × (mgAt (accountsOf amendments) (key 3 3 2025) ≡ 6 ∷ 0 ∷ 0 ∷ 0 ∷ 0 ∷ 0 ∷ 0 ∷ [])
       × (mgAt (accountsOf amendments) (key 3 3 2026) ≡ 1 ∷ 0 ∷ 0 ∷ 0 ∷ 0 ∷ 0 ∷ 0 ∷ [])
+  -- by 510, by 506, by 506 after 510, and by 510 after 506
+  pub ownStandards :
+      (accountsOf ownTables .earned (key 0 3 2025) ≡ 5)
+      × (accountsOf ownTables .earned (key 1 3 2025) ≡ 1)
+      × (accountsOf ownTables .earned (key 2 3 2025) ≡ 3)
+      × (accountsOf ownTables .earned (key 3 3 2025) ≡ 7)
   pub otherSet : mgAt (accountsOf example) (key 0 2 2014) ≡ 0 ∷ 0 ∷ 0 ∷ 0 ∷ 0 ∷ 0 ∷ 0 ∷ []

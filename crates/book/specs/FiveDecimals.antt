@@ -9,15 +9,16 @@ use mathlib.Core.Path.{_≡_}
 use lib.Dec.{leb}
 use lib.IntN.{ℤ, pos, natAbs}
 use lib.ListN.{getD}
+use Rattle.figuring.specs.Tables.{Table}
 use Rattle.figuring.specs.FiveDecimals.{oldCf, oldUnit, oldPartMost, restatedCf, restatedPart}
 use Rattle.book.specs.Filings.{withCf}
 use Rattle.book.specs.Sizes.{allParts}
-use Rattle.book.specs.Below.{allBelow}
+use Rattle.figuring.specs.Below.{allBelow}
 use Rattle.book.specs.Ledger.{marked}
 use Rattle.book.specs.Soundness.{sound, partSound}
 use Rattle.book.specs.Refusals.{firstRefusal}
 use Rattle.book.specs.Postings.{freshBook, withFamilies, closedIn}
-use Rattle.book.specs.Rules.{headRows, ownRows, done, outcome, posted}
+use Rattle.book.specs.Rules.{Request, headRows, tableRows, ownRows, done, outcome, posted}
 use Rattle.book.specs.declared.ledger.Book.{Book}
 use Rattle.book.specs.declared.kinds.Call.{Call}
 use Rattle.book.specs.declared.kinds.Filing.{Filing}
@@ -51,15 +52,16 @@ abbrev pub oldLimits : Call → Call
 oldLimits = onCf oldCf
 
 -- a close rounded parts "in units of 10^-7 Mg"
-abbrev pub oldDone : Book → Call → Posted
-oldDone b (Call.File f) = done b (Call.File f)
-oldDone b (Call.Close y) = closedIn oldUnit b
-oldDone b (Call.Trade t) = done b (Call.Trade t)
-oldDone b (Call.Apply p) = done b (Call.Apply p)
-oldDone b (Call.Retire p) = done b (Call.Retire p)
+abbrev pub oldDone : Table → Book → Call → Posted
+oldDone t b (Call.File f) = done t b (Call.File f)
+oldDone t b (Call.Close y) = closedIn oldUnit b
+oldDone t b (Call.Trade x) = done t b (Call.Trade x)
+oldDone t b (Call.Apply p) = done t b (Call.Apply p)
+oldDone t b (Call.Retire p) = done t b (Call.Retire p)
 
-unfoldable pub oldPosted : Book → Call → Posted
-oldPosted b c = outcome (firstRefusal (headRows (oldSound b) ++ ownRows b (oldLimits c))) b (oldDone b c)
+unfoldable pub oldPosted : Table → Book → Call → Posted
+oldPosted t b c =
+    outcome (firstRefusal (headRows (oldSound b) (tableRows t c) ++ ownRows t b (oldLimits c))) b (oldDone t b c)
 
 -- ---- restated: "CF .. multiplied by 10", and with it every part. Mg and all else are as they were
 
@@ -77,17 +79,18 @@ restatedAnswer (Left m) = Left m
 
 -- ---- the promise
 
--- Two sessions of the same calls, each call put to the book that the one before left: the old one, and the restated one.
+-- Two sessions of the same calls, each call handed the same table in both and put to the book that the one before left:
+-- the old one, and the restated one.
 -- At every point their books are the same, open year, marks, lots and shortages, and so is every answer, its refusal and
 -- its Mg; only parts are ten times as large.
-abbrev pub SideBySide : Book → Book → List Call → Type 0
+abbrev pub SideBySide : Book → Book → List Request → Type 0
 SideBySide old new [] = new ≡ restatedBook old
-SideBySide old new (c ∷ cs) =
+SideBySide old new (r ∷ rs) =
     (new ≡ restatedBook old)
-    × (posted new (restatedCall c) .answer ≡ restatedAnswer (oldPosted old c .answer))
-    × SideBySide (oldPosted old c .book) (posted new (restatedCall c) .book) cs
+    × (posted (r .table) new (restatedCall (r .call)) .answer ≡ restatedAnswer (oldPosted (r .table) old (r .call) .answer))
+    × SideBySide (oldPosted (r .table) old (r .call) .book) (posted (r .table) new (restatedCall (r .call)) .book) rs
 
 pub record SameSessions : Type 0 where
-  pub fresh : (cs : List Call) → SideBySide freshBook freshBook cs
+  pub fresh : (rs : List Request) → SideBySide freshBook freshBook rs
   -- from any book, sound or not, that is restated as its calls are
-  pub any : (b : Book) (cs : List Call) → SideBySide b (restatedBook b) cs
+  pub any : (b : Book) (rs : List Request) → SideBySide b (restatedBook b) rs

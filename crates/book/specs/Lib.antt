@@ -15,6 +15,7 @@ pub mod FilingOrder
 pub mod FiveDecimals
 pub mod Editions
 pub mod Amendments
+pub mod OwnStandards
 pub mod Listing
 pub mod Marked
 pub mod EachAccount

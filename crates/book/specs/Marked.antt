@@ -1,8 +1,9 @@
--- Document 01, "Marked figures", P1 to P12, of the rules together.
+-- Document 01, "Marked figures", P1 to P12, of the rules together, with the built-in table.
 use Prim.Native.Nat.{ℕ}
 use mathlib.Core.Path.{_≡_}
 use mathlib.Core.Bool.{true, false}
 use lib.IntN.{pos}
+use Rattle.figuring.specs.Tables.{builtIn}
 use Rattle.figuring.specs.Marked.{FiguringMarked}
 use Rattle.book.specs.Refusals.{refusalIn}
 use Rattle.book.specs.Ledger.{key, figureAt}
@@ -45,18 +46,18 @@ pub record MarkedFigures : Type 0 where
   pub figuring : FiguringMarked
   -- P7 once more, of a close: two parts of 40,000,000 in a cell earn 1 Mg
   pub P7 :
-      (isAccepted (posted twoParts (Call.Close 2014) .answer) ≡ true)
-      × (figureAt (posted twoParts (Call.Close 2014) .book .lots) (key 0 0 2014) ≡ 1)
+      (isAccepted (posted builtIn twoParts (Call.Close 2014) .answer) ≡ true)
+      × (figureAt (posted builtIn twoParts (Call.Close 2014) .book .lots) (key 0 0 2014) ≡ 1)
   -- P10 FCL 1,200 taken; 0 and 1,201 refused by 8
   pub P10 :
-      (isAccepted (posted freshBook (filingWith 0 1200) .answer) ≡ true)
-      × (refusalIn (posted freshBook (filingWith 0 0) .answer) ≡ 8)
-      × (refusalIn (posted freshBook (filingWith 0 1201) .answer) ≡ 8)
+      (isAccepted (posted builtIn freshBook (filingWith 0 1200) .answer) ≡ true)
+      × (refusalIn (posted builtIn freshBook (filingWith 0 0) .answer) ≡ 8)
+      × (refusalIn (posted builtIn freshBook (filingWith 0 1201) .answer) ≡ 8)
   -- P11 family 63 taken, 64 refused by 7
   pub P11 :
-      (isAccepted (posted freshBook (filingWith 63 465) .answer) ≡ true)
-      × (refusalIn (posted freshBook (filingWith 64 465) .answer) ≡ 7)
+      (isAccepted (posted builtIn freshBook (filingWith 63 465) .answer) ≡ true)
+      × (refusalIn (posted builtIn freshBook (filingWith 64 465) .answer) ≡ 7)
   -- P12 close 2037 taken, then close 2038 refused by 5
   pub P12 :
-      (isAccepted (posted lastOpen (Call.Close 2037) .answer) ≡ true)
-      × (refusalIn (posted (posted lastOpen (Call.Close 2037) .book) (Call.Close 2038) .answer) ≡ 5)
+      (isAccepted (posted builtIn lastOpen (Call.Close 2037) .answer) ≡ true)
+      × (refusalIn (posted builtIn (posted builtIn lastOpen (Call.Close 2037) .book) (Call.Close 2038) .answer) ≡ 5)

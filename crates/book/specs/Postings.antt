@@ -7,9 +7,11 @@ use lib.IntN.{ℤ, pos}
 use Rattle.figuring.specs.Years.{firstYear}
 use Rattle.figuring.specs.Units.{engineUnit}
 use Rattle.figuring.specs.Standards.{gramsOf}
+use Rattle.figuring.specs.Tables.{Table, ordinaryIn}
 use Rattle.figuring.specs.Editions.{standardUnder}
 use Rattle.figuring.specs.Parts.{partOf}
 use Rattle.figuring.specs.Netting.{netOf, earnedOf, shortfallOf}
+use Rattle.figuring.specs.declared.standards.Standard.{Standard}
 use Rattle.figuring.specs.declared.netting.Net.{Net}
 use Rattle.book.specs.Sizes.{cells, families, years, places, allParts}
 use Rattle.book.specs.Below.{countBelow}
@@ -43,11 +45,19 @@ freshBook = emptyIn firstYear
 -- So its family's bit is set, and setting it changes nothing: it is posted as a filing is. `Amended` says it in the card's
 -- words.
 
--- a filing's part, figured from its own arguments. Card 5: "under the standard they named"
-unfoldable pub partFor : Filing → ℤ
-partFor f =
-    partOf (gramsOf (standardUnder (f .edition) (f .set) (f .«vehicle_use») (f .year))) (f .fcl) (f .cf) (f .volume)
-    (f .life)
+-- Card 7: "edition 0 then means this table". The ordinary standard that a filing finds in the table that it is handed
+abbrev pub ordinaryFor : Table → Filing → Standard
+ordinaryFor t f = ordinaryIn t (f .set) (f .«vehicle_use») (f .year)
+
+-- a filing's part beside an ordinary standard. Card 5: "under the standard they named"
+unfoldable pub partBeside : Standard → Filing → ℤ
+partBeside ordinary f =
+    partOf (gramsOf (standardUnder ordinary (f .edition) (f .set) (f .«vehicle_use») (f .year))) (f .fcl) (f .cf)
+    (f .volume) (f .life)
+
+-- a filing's part, figured from its own arguments, of which the table is one
+abbrev pub partFor : Table → Filing → ℤ
+partFor t f = partBeside (ordinaryFor t f) f
 
 abbrev pub filingCell : Filing → ℕ
 filingCell f = cell (f .maker) (f .set)
@@ -75,8 +85,8 @@ stored b c family z =
       book = withFamilies b (store (b .marks) c mark) (store (b .parts) (c * families + family) z);
     }
 
-abbrev pub filingDone : Book → Filing → Posted
-filingDone b f = stored b (filingCell f) (f .family) (partFor f)
+abbrev pub filingDone : Table → Book → Filing → Posted
+filingDone t b f = stored b (filingCell f) (f .family) (partFor t f)
 
 -- ---- Close: "for each cell the parts are added exactly, then rounded once"; what comes out becomes the lot or the
 -- shortage of that year, both written, 0 where there is nothing

@@ -9,7 +9,7 @@ use Rattle.book.specs.declared.answers.Refusal.the-variants.{NotAForm, U
 use Rattle.book.specs.declared.answers.Refusal.the-variants.{YearNotOpen, NoStandard, UnknownFamily, OutOfLimits}
 use Rattle.book.specs.declared.answers.Refusal.the-variants.{AlreadyFiled, VintageNotLive, ZeroAmount, SameMaker}
 use Rattle.book.specs.declared.answers.Refusal.the-variants.{HasShortage, NoOpenShortage, AboveLot, AboveShortage}
-use Rattle.book.specs.declared.answers.Refusal.the-variants.{NoEdition, NotFiled}
+use Rattle.book.specs.declared.answers.Refusal.the-variants.{NoEdition, NotFiled, NotATable, UnfitTable}
 use Rattle.book.specs.declared.answers.Answer.{Answer}
 use Rattle.book.specs.declared.answers.Answer.the-variants.{Refused, Filed, Closed, Left}
 use Rattle.book.specs.declared.answers.Verdict.{Verdict}
@@ -53,6 +53,10 @@ numberOf AboveShortage = 16
 numberOf NoEdition = 17
 -- Card 6: the family number isn't filed in this cell this year; "stands in place of 9".
 numberOf NotFiled = 18
+-- Card 7: a line of `std.txt` isn't of that form, is missing or too many, or its year is wrong (text only).
+numberOf NotATable = 19
+-- Card 7: an entry of the table breaks the limits or rises.
+numberOf UnfitTable = 20
 
 -- the number of an answer's refusal, 0 where the call was accepted
 unfoldable pub refusalIn : Answer → ℕ

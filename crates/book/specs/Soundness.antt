@@ -8,7 +8,8 @@ use lib.ListN.{getD}
 use Rattle.figuring.specs.Years.{firstYear}
 use Rattle.figuring.specs.Parts.{partMost}
 use Rattle.book.specs.Sizes.{makers, sets, families, years, allClosed, shortageMost, lotsMost}
-use Rattle.book.specs.Below.{allBelow, sumBelow}
+use Rattle.figuring.specs.Below.{allBelow}
+use Rattle.book.specs.Below.{sumBelow}
 use Rattle.book.specs.Ledger.{key, cell, figureAt, marked, partAt}
 use Rattle.book.specs.declared.ledger.Book.{Book}
 

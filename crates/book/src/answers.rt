@@ -25,6 +25,8 @@ pub enum Refusal {
     AboveShortage,
     NoEdition,
     NotFiled,
+    NotATable,
+    UnfitTable,
 }
 
 pub enum Answer {
@@ -72,5 +74,7 @@ pub fn refusal_number(r: Refusal) -> u64
         Refusal::AboveShortage => 16,
         Refusal::NoEdition => 17,
         Refusal::NotFiled => 18,
+        Refusal::NotATable => 19,
+        Refusal::UnfitTable => 20,
     }
 }

@@ -1,6 +1,7 @@
 // Apply: lowers a lot, and a shortage of the same maker and set by as much.
 ghost use mathlib.Core.Path.{_≡_};
 ghost use Prim.Native.Nat.{_≤_};
+ghost use Rattle.figuring.specs.Tables.{Table};
 ghost use Rattle.book.specs.Sizes.{allClosed};
 ghost use Rattle.book.specs.Refusals.{firstRefusal};
 ghost use Rattle.book.specs.Rules.{posted, applyRows};
@@ -22,7 +23,7 @@ use figuring::life::is_open;
 use figuring::units::Mg;
 
 pub fn apply(book: Book, p: Application) -> Posted
-    ensures { λ r. ⌜ r ≡ posted book (Call.Apply p) ⌝ }
+    ensures { λ r. ⌜ ((table : Table) → r ≡ posted table book (Call.Apply p)) ⌝ }
 {
     let mut after = book;
     let sound = arrays_sound(

@@ -4,16 +4,18 @@ ghost use Prim.Native.Nat.{ℕ};
 ghost use mathlib.Core.Bool.{true};
 ghost use mathlib.Core.List.{List};
 ghost use mathlib.Core.Path.{_≡_};
+ghost use Rattle.figuring.specs.Tables.{Table};
 ghost use Rattle.book.specs.Ledger.{Key, In};
-ghost use Rattle.book.specs.Rules.{CheckingOrder};
+ghost use Rattle.book.specs.Rules.{CheckingOrder, Request};
 ghost use Rattle.book.specs.Accounts.{Entry};
 ghost use Rattle.book.specs.Demand1.{Demand1};
 ghost use Rattle.book.specs.Demand3.{Demand3};
 ghost use Rattle.book.specs.Companions.{KeepsSound, NeverUnsound, Stays, StrikeOut};
-ghost use Rattle.book.specs.FilingOrder.{FilingOrder, EachAlone, SaysNoLess};
+ghost use Rattle.book.specs.FilingOrder.{FilingOrder, EachAlone, Lodged, SaysNoLess};
 ghost use Rattle.book.specs.FiveDecimals.{SameSessions, SoundParts};
 ghost use Rattle.book.specs.Editions.{ElseTheSame, Reaches6, SixThenSeventeen, UnderNamed};
 ghost use Rattle.book.specs.Amendments.{Amended, CountsLast, LastCounts, StandsInPlaceOf9};
+ghost use Rattle.book.specs.OwnStandards.{AsBefore, ReadNoTable, Twenty, WithinBound};
 ghost use Rattle.book.specs.Marked.{MarkedFigures};
 ghost use Rattle.book.specs.EachAccount.{EachAccount};
 ghost use Rattle.book.specs.declared.ledger.Book.{Book};
@@ -22,7 +24,7 @@ ghost use Rattle.book.specs.declared.kinds.Filing.{Filing};
 
 // Demand 1: its result or one numbered refusal, which leaves the book as it was.
 pub fn answers_or_refuses() -> bool
-    ensures { λ r. ⌜ (r ≡ true) × ((b : Book) (c : Call) → Demand1 b c) ⌝ }
+    ensures { λ r. ⌜ (r ≡ true) × ((t : Table) (b : Book) (c : Call) → Demand1 t b c) ⌝ }
 {
     true
 }
@@ -36,35 +38,35 @@ pub fn checking_order() -> bool
 
 // Demand 3.
 pub fn reconciles() -> bool
-    ensures { λ r. ⌜ (r ≡ true) × ((cs : List Call) → Demand3 cs) ⌝ }
+    ensures { λ r. ⌜ (r ≡ true) × ((rs : List Request) → Demand3 rs) ⌝ }
 {
     true
 }
 
 // A call leaves a sound book sound.
 pub fn keeps_sound() -> bool
-    ensures { λ r. ⌜ (r ≡ true) × ((b : Book) (c : Call) → KeepsSound b c) ⌝ }
+    ensures { λ r. ⌜ (r ≡ true) × ((t : Table) (b : Book) (c : Call) → KeepsSound t b c) ⌝ }
 {
     true
 }
 
 // No list begun on a fresh book meets refusal 2.
 pub fn never_unsound() -> bool
-    ensures { λ r. ⌜ (r ≡ true) × ((cs : List Call) → NeverUnsound cs) ⌝ }
+    ensures { λ r. ⌜ (r ≡ true) × ((rs : List Request) → NeverUnsound rs) ⌝ }
 {
     true
 }
 
 // Refused calls may be struck out.
 pub fn strike_out() -> bool
-    ensures { λ r. ⌜ (r ≡ true) × ((b : Book) (cs : List Call) → StrikeOut b cs) ⌝ }
+    ensures { λ r. ⌜ (r ≡ true) × ((b : Book) (rs : List Request) → StrikeOut b rs) ⌝ }
 {
     true
 }
 
 // An expired lot and an overdue shortage stay.
 pub fn stays() -> bool
-    ensures { λ r. ⌜ (r ≡ true) × ((b : Book) (cs : List Call) (k : Key) → In k → Stays b cs k) ⌝ }
+    ensures { λ r. ⌜ (r ≡ true) × ((b : Book) (rs : List Request) (k : Key) → In k → Stays b rs k) ⌝ }
 {
     true
 }
@@ -85,14 +87,14 @@ pub fn marked_figures() -> bool
 
 // Card 1: the order of filings changes neither the book nor what each filing gets.
 pub fn filing_order() -> bool
-    ensures { λ r. ⌜ (r ≡ true) × ((b : Book) (fs gs : List Filing) → FilingOrder b fs gs) ⌝ }
+    ensures { λ r. ⌜ (r ≡ true) × ((b : Book) (fs gs : List Lodged) → FilingOrder b fs gs) ⌝ }
 {
     true
 }
 
 // The reason: each filing gets what it gets alone, and together they make one book.
 pub fn each_alone() -> bool
-    ensures { λ r. ⌜ (r ≡ true) × ((b : Book) (fs : List Filing) → EachAlone b fs) ⌝ }
+    ensures { λ r. ⌜ (r ≡ true) × ((b : Book) (fs : List Lodged) → EachAlone b fs) ⌝ }
 {
     true
 }
@@ -115,25 +117,41 @@ pub fn same_sessions() -> bool
 // Card 5: an accepted filing is figured under the standard that it named; 6 goes by the ordinary one, before 17; and an
 // edition that 17 lets pass changes nothing but the part.
 pub fn under_named() -> bool
-    ensures { λ r. ⌜ (r ≡ true) × ((b : Book) (f : Filing) → UnderNamed b f)
-        × ((b : Book) (f : Filing) → Reaches6 b f → SixThenSeventeen b f)
-        × ((b : Book) (f : Filing) → ElseTheSame b f) ⌝ }
+    ensures { λ r. ⌜ (r ≡ true) × ((t : Table) (b : Book) (f : Filing) → UnderNamed t b f)
+        × ((t : Table) (b : Book) (f : Filing) → Reaches6 t b f → SixThenSeventeen t b f)
+        × ((t : Table) (b : Book) (f : Filing) → ElseTheSame t b f) ⌝ }
 {
     true
 }
 
 // Card 6: an accepted amendment replaces the part, and leaves the marks, the count and all else; 18 stands in place of 9.
 pub fn amended() -> bool
-    ensures { λ r. ⌜ (r ≡ true) × ((b : Book) (f : Filing) → Amended b f)
-        × ((b : Book) (f : Filing) → StandsInPlaceOf9 b f) ⌝ }
+    ensures { λ r. ⌜ (r ≡ true) × ((t : Table) (b : Book) (f : Filing) → Amended t b f)
+        × ((t : Table) (b : Book) (f : Filing) → StandsInPlaceOf9 t b f) ⌝ }
 {
     true
 }
 
 // A family counts with its last accepted figures of the year, in the book and in the accounts.
 pub fn last_counts() -> bool
-    ensures { λ r. ⌜ (r ≡ true) × ((b : Book) (f g : Filing) → LastCounts b f g)
+    ensures { λ r. ⌜ (r ≡ true) × ((t u : Table) (b : Book) (f g : Filing) → LastCounts t u b f g)
         × ((es : List Entry) (k : Key) (family : ℕ) → CountsLast es k family) ⌝ }
+{
+    true
+}
+
+// Card 7: 20 comes after 2 and before all else, of filings and amendments alone; and a part stays within its bound.
+pub fn tables_judged() -> bool
+    ensures { λ r. ⌜ (r ≡ true) × ((t : Table) (b : Book) (f : Filing) → Twenty t b f)
+        × ((t u : Table) (b : Book) → ReadNoTable t u b)
+        × ((t : Table) (b : Book) (f : Filing) → WithinBound t b f) ⌝ }
+{
+    true
+}
+
+// With the built-in table every answer and every book is what it was before.
+pub fn as_before() -> bool
+    ensures { λ r. ⌜ (r ≡ true) × ((b : Book) (c : Call) → AsBefore b c) ⌝ }
 {
     true
 }

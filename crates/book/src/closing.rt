@@ -4,6 +4,7 @@ ghost use mathlib.Core.Bool.{true};
 ghost use Prim.Native.Nat.{ℕ, _-_, _<_, _≤_};
 ghost use lib.Dec.{ltb};
 ghost use lib.IntN.{natAbs};
+ghost use Rattle.figuring.specs.Tables.{Table};
 ghost use Rattle.figuring.specs.Years.{firstYear, lastYear};
 ghost use Rattle.figuring.specs.Parts.{partMost};
 ghost use Rattle.book.specs.Sizes.{cells, families};
@@ -32,7 +33,7 @@ use figuring::units::Part;
 use figuring::years::FIRST_YEAR;
 
 pub fn close(book: Book, year: u64) -> Posted
-    ensures { λ r. ⌜ r ≡ posted book (Call.Close year) ⌝ }
+    ensures { λ r. ⌜ ((table : Table) → r ≡ posted table book (Call.Close year)) ⌝ }
 {
     let mut after = book;
     let sound = arrays_sound(

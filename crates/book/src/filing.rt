@@ -1,5 +1,6 @@
 // File: sets a family's mark and part in the open year. An amendment is a filing of a family that is filed: its mark
-// stays, and its part is replaced.
+// stays, and its part is replaced. Both are handed a table of standards (card 7), and read in it whether it is accepted
+// and the ordinary standard of their set, use and year.
 ghost use mathlib.Core.List.{[], _∷_};
 ghost use mathlib.Core.Path.{_≡_};
 ghost use Rattle.figuring.specs.Parts.{familyPart};
@@ -12,7 +13,7 @@ use crate::answers::Answer;
 use crate::answers::Posted;
 use crate::answers::Refusal;
 use crate::answers::Verdict;
-use crate::head::head_verdict;
+use crate::head::filing_head;
 use crate::kinds::Filing;
 use crate::ledger::ALL_CLOSED;
 use crate::ledger::Book;
@@ -27,13 +28,18 @@ use figuring::editions::standard_under;
 use figuring::parts::FamilyPart;
 use figuring::parts::family_part;
 use figuring::parts::within_limits;
+use figuring::standards::Standard;
 use figuring::standards::grams;
 use figuring::standards::is_absent;
-use figuring::standards::standard_for;
+use figuring::standards::ordinary_in;
+use figuring::tables::Table;
+use figuring::tables::table_accepted;
 
-pub fn file(book: Book, f: Filing) -> Posted
-    ensures { λ r. ⌜ r ≡ posted book (Call.File f) ⌝ }
+pub fn file(book: Book, table: Table, f: Filing) -> Posted
+    ensures { λ r. ⌜ r ≡ posted table book (Call.File f) ⌝ }
 {
+    let fit = table_accepted(table);
+    let ordinary = ordinary_in(table, f.set, f.vehicle_use, f.year);
     let mut after = book;
     let sound = arrays_sound(
         after.open_year,
@@ -42,12 +48,12 @@ pub fn file(book: Book, f: Filing) -> Posted
         &after.lots,
         &after.shortages,
     );
-    let head = head_verdict(sound);
+    let head = filing_head(sound, fit);
     let answer = match head {
         Verdict::Refuse(why) => Answer::Refused(why),
-        Verdict::Accepted => match file_verdict(after.open_year, &after.marks, f) {
+        Verdict::Accepted => match file_verdict(ordinary, after.open_year, &after.marks, f) {
             Verdict::Refuse(why) => Answer::Refused(why),
-            Verdict::Accepted => match part_of(f) {
+            Verdict::Accepted => match part_of(ordinary, f) {
                 FamilyPart::OutOfLimits => Answer::Refused(Refusal::OutOfLimits),
                 FamilyPart::Figured(part) => {
                     let cell = f.maker * SETS + f.set;
@@ -69,17 +75,18 @@ pub fn file(book: Book, f: Filing) -> Posted
     }
 }
 
-// A filing's part, from the standard that it names; out of limits where document 01 says so.
-fn part_of(f: Filing) -> FamilyPart
-    ensures { λ r. ⌜ r ≡ familyPart (gramsOf (standardUnder (f .edition) (f .set) (f .«vehicle_use») (f .year)))
+// A filing's part, from the standard that it names beside the ordinary one; out of limits where document 01 says so.
+fn part_of(ordinary: Standard, f: Filing) -> FamilyPart
+    ensures { λ r. ⌜ r ≡ familyPart
+        (gramsOf (standardUnder ordinary (f .edition) (f .set) (f .«vehicle_use») (f .year)))
         (f .fcl) (f .cf) (f .volume) (f .life) ⌝ }
 {
-    let standard = grams(standard_under(f.edition, f.set, f.vehicle_use, f.year));
+    let standard = grams(standard_under(ordinary, f.edition, f.set, f.vehicle_use, f.year));
     family_part(standard, f.fcl, f.cf, f.volume, f.life)
 }
 
-fn file_verdict(open_year: u64, marks: &[u64; 32], f: Filing) -> Verdict
-    ensures { λ r. ⌜ r ≡ firstRefusal (fileRows «open_year» (now (marks .entry)) f) ⌝ }
+fn file_verdict(ordinary: Standard, open_year: u64, marks: &[u64; 32], f: Filing) -> Verdict
+    ensures { λ r. ⌜ r ≡ firstRefusal (fileRows ordinary «open_year» (now (marks .entry)) f) ⌝ }
 {
     if f.maker >= MAKERS {
         return Verdict::Refuse(Refusal::UnknownMaker);
@@ -93,7 +100,7 @@ fn file_verdict(open_year: u64, marks: &[u64; 32], f: Filing) -> Verdict
     if open_year == ALL_CLOSED {
         return Verdict::Refuse(Refusal::YearNotOpen);
     }
-    if is_absent(standard_for(f.set, f.vehicle_use, f.year)) {
+    if is_absent(ordinary) {
         return Verdict::Refuse(Refusal::NoStandard);
     }
     if no_edition(f.edition, f.set, f.year) {

@@ -5,11 +5,12 @@ use crate::answers::Posted;
 use crate::in_place::post_in;
 use crate::kinds::Call;
 use crate::ledger::Book;
+use figuring::tables::Table;
 
-pub fn post(book: Book, call: Call) -> Posted
-    ensures { λ r. ⌜ r ≡ posted book call ⌝ }
+pub fn post(book: Book, table: Table, call: Call) -> Posted
+    ensures { λ r. ⌜ r ≡ posted table book call ⌝ }
 {
     let mut own = book;
-    let answer = post_in(&mut own, call);
+    let answer = post_in(&mut own, table, call);
     Posted { answer, book: own }
 }

@@ -1,6 +1,7 @@
 // Retire: lowers a lot.
 ghost use mathlib.Core.Path.{_≡_};
 ghost use Prim.Native.Nat.{_≤_};
+ghost use Rattle.figuring.specs.Tables.{Table};
 ghost use Rattle.book.specs.Sizes.{allClosed};
 ghost use Rattle.book.specs.Refusals.{firstRefusal};
 ghost use Rattle.book.specs.Rules.{posted, retireRows};
@@ -22,7 +23,7 @@ use figuring::life::is_live;
 use figuring::units::Mg;
 
 pub fn retire(book: Book, p: Retirement) -> Posted
-    ensures { λ r. ⌜ r ≡ posted book (Call.Retire p) ⌝ }
+    ensures { λ r. ⌜ ((table : Table) → r ≡ posted table book (Call.Retire p)) ⌝ }
 {
     let mut after = book;
     let sound = arrays_sound(

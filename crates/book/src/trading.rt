@@ -1,6 +1,7 @@
 // Trade: moves Mg between two makers' lots of one set and vintage.
 ghost use mathlib.Core.Path.{_≡_};
 ghost use Prim.Native.Nat.{_≤_};
+ghost use Rattle.figuring.specs.Tables.{Table};
 ghost use Rattle.book.specs.Sizes.{allClosed};
 ghost use Rattle.book.specs.Refusals.{firstRefusal};
 ghost use Rattle.book.specs.Rules.{posted, tradeRows};
@@ -23,7 +24,7 @@ use figuring::life::is_live;
 use figuring::units::Mg;
 
 pub fn trade(book: Book, t: Trade) -> Posted
-    ensures { λ r. ⌜ r ≡ posted book (Call.Trade t) ⌝ }
+    ensures { λ r. ⌜ ((table : Table) → r ≡ posted table book (Call.Trade t)) ⌝ }
 {
     let mut after = book;
     let sound = arrays_sound(

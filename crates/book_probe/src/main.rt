@@ -1,6 +1,7 @@
 // Puts calls to books that no session reaches, whatever their figures, to hold a second implementation against the
-// calls and soundness. Standard input holds records of 3,628 words, each a book and a call; for each record it writes
-// 3,621 words: whether the book is sound, the answer, and the book after the call. A word is 64 bits, low byte first.
+// calls and soundness. Standard input holds records of 3,772 words, each a book, a call and a table of standards; for
+// each record it writes 3,621 words: whether the book is sound, the answer, and the book after the call. A word is 64
+// bits, low byte first.
 // A last record that is cut short is ignored. A kind of call that is not known ends the run, with a message.
 mod records;
 mod words;
@@ -30,7 +31,7 @@ fn turn(input: &mut [u8], out: &mut [u8]) -> bool
 }
 
 fn main() {
-    let mut input = [0u8; 29024];
+    let mut input = [0u8; 30176];
     let mut out = [0u8; 28968];
     let mut turns = u64::MAX;
     while turns > 0 {

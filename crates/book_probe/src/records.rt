@@ -1,6 +1,6 @@
-// Records: a book and a call in, whether the book is sound, the answer and the book after it out.
+// Records: a book, a call and a table in, whether the book is sound, the answer and the book after it out.
 ghost use mathlib.Core.Path.{_≡_};
-ghost use Prim.Native.Nat.{_≤_};
+ghost use Prim.Native.Nat.{_+_, _≤_};
 ghost use lib.ListN.{length};
 ghost use Rattle.book_probe.specs.Sizes.{answerBytes, bookBytes, recordBytes};
 use crate::words::bits;
@@ -20,6 +20,9 @@ use book::kinds::Trade;
 use book::ledger::Book;
 use book::posting::post;
 use book::soundness::is_sound;
+use figuring::grid::COLUMNS;
+use figuring::grid::YEARS;
+use figuring::tables::Table;
 
 // Where the book's arrays begin, in bytes, after its open year.
 const MARKS: usize = 8;
@@ -34,7 +37,12 @@ const KIND: usize = SHORTAGES + 8 * 768;
 
 const ARGUMENTS: usize = KIND + 8;
 
-pub(crate) const RECORD: usize = ARGUMENTS + 8 * 10;
+// The table that the call is handed, row by row.
+const TABLE: usize = ARGUMENTS + 8 * 10;
+
+const ROW: usize = 8 * COLUMNS;
+
+pub(crate) const RECORD: usize = TABLE + ROW * YEARS;
 // Where the book begins in an answer: after its soundness, its refusal and two values.
 const AFTER: usize = 8 * 4;
 
@@ -68,7 +76,7 @@ fn answer_call(input: &[u8], call: Call, out: &mut [u8])
 {
     let book = book_of(input);
     let sound = is_sound(book);
-    let posted = post(book, call);
+    let posted = post(book, table_of(input), call);
     let answer = posted.answer;
     let after = posted.book;
     put_answer(out, sound, answer);
@@ -107,6 +115,24 @@ fn book_of(input: &[u8]) -> Book
         lots,
         shortages,
     }
+}
+
+fn table_of(input: &[u8]) -> Table
+    requires { ⌜ recordBytes ≡ length (now input) ⌝ }
+{
+    let mut table = [[0u64; COLUMNS]; YEARS];
+    for i in 0..YEARS {
+        table[i] = row_of(input, TABLE + ROW * i);
+    }
+    table
+}
+
+fn row_of(input: &[u8], at: usize) -> [u64; COLUMNS]
+    requires { ⌜ at + 48 ≤ length (now input) ⌝ }
+{
+    let mut row = [0u64; COLUMNS];
+    read_words(input, at, &mut row);
+    row
 }
 
 fn put_book(out: &mut [u8], book: Book)

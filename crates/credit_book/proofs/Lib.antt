@@ -1,2 +1,4 @@
 pub mod TurnLaws
 pub mod RunLaws
+pub mod StdFileLaws
+pub mod WholeLaws

@@ -8,11 +8,12 @@ use mathlib.Core.List.{List, [], _∷_, _++_}
 use lib.IntN.{ℤ, pos, negsuc}
 use lib.Signed.{ltZ}
 use borrow.Author.Tests.{ltb-true}
-use mir.Syntax.{w64}
+use mir.Syntax.{Width, w64}
 use mir.Val.{SFits, toZ, ofZ}
 use mir.Facts.{toZ-ofZ}
 use lib.ListN.{length, length-append}
 use lib.Seq.{length-take-le}
+use Rattle.figuring.specs.Tables.{Table}
 use Rattle.text.specs.declared.desk.Desk.{Desk}
 use Rattle.text.specs.declared.desk.Reply.{Reply}
 use Rattle.text.specs.Desk.{Terminal, Serves, atDesk, openDesk, ends}
@@ -28,8 +29,8 @@ use Rattle.credit_book.specs.Turns.{readsOn, mostTurns}
 
 -- a desk's answers, handed over
 pub delivered :
-    {t : Terminal} {out out′ : List ℕ} {f : Reply} {d : Desk} {wrote : Wrote} → Serves t out f out′ → d ≡ f .desk
-    → wrote .handed ≡ f .at → Delivered t out d wrote out′
+    {x : Terminal} {out out′ : List ℕ} {f : Reply} {d : Desk} {wrote : Wrote} → Serves x out f out′ → d ≡ f .desk
+    → wrote .handed ≡ f .at → Delivered x out d wrote out′
 delivered s e h =
     record {
       desk-is = rw (e, s .book-is, s .held-is);
@@ -38,14 +39,14 @@ delivered s e h =
 
 -- ---- the reading
 -- the loop's invariant: what has been read so far
-pub record SoFar (out₀ out : List ℕ) (d : Desk) (turns : ℕ) (more fine : Bool) : Type 0 where
+pub record SoFar (t : Table) (out₀ out : List ℕ) (d : Desk) (turns : ℕ) (more fine : Bool) : Type 0 where
   pub long : length out ≡ length out₀
   pub within : turns ≤ mostTurns
   pub chunks : List (List ℕ)
-  pub reading : Reading chunks (atDesk d) more fine
+  pub reading : Reading t chunks (atDesk d) more fine
   pub counts : turns ≡ length chunks
 
-pub none-yet : {out : List ℕ} {d : Desk} → d ≡ openDesk → SoFar out out d 0 true true
+pub none-yet : {t : Table} {out : List ℕ} {d : Desk} → d ≡ openDesk → SoFar t out out d 0 true true
 none-yet e = record { long = refl; within = omega arith; chunks = []; reading = rw e Reading.begun; counts = refl }
 
 -- as many bytes as the read answered
@@ -56,13 +57,13 @@ as-long (negsuc k) buffer e = length-take-le 0 buffer (omega arith)
 
 -- one turn more; the loop holds what the read answered as its bits
 pub next :
-    {out₀ out out′ : List ℕ} {d : Desk} {turns : ℕ} {on before more fine : Bool} {r : Turn}
-    → on ≡ true → turns < mostTurns → SoFar out₀ out d turns on before → Turned d out r out′
+    {t : Table} {out₀ out out′ : List ℕ} {d : Desk} {turns : ℕ} {on before more fine : Bool} {r : Turn}
+    → on ≡ true → turns < mostTurns → SoFar t out₀ out d turns on before → Turned t d out r out′
     → SFits w64 (r .got)
     → fine ≡ turnFine (toZ w64 (ofZ w64 (r .got))) (r .interrupted) (r .wrote .fine)
     → more ≡ readsOn (toZ w64 (ofZ w64 (r .got))) fine
-    → SoFar out₀ out′ (r .desk) (turns + 1) more fine
-next {d = d} {before = before} {r = r} o h g s z f m =
+    → SoFar t out₀ out′ (r .desk) (turns + 1) more fine
+next {t = t} {d = d} {before = before} {r = r} o h g s z f m =
     record {
       long = same-long (s .delivered .stands) ∙ g .long;
       within = omega arith;
@@ -70,14 +71,14 @@ next {d = d} {before = before} {r = r} o h g s z f m =
       reading =
           rw (m, f, toZ-ofZ z, s .delivered .desk-is)
           (Reading.turn (firstBytes (r .got) (s .buffer)) (r .got) (r .interrupted) (r .wrote)
-          (subst (λ (b : Bool). Reading (g .chunks) (atDesk d) b before) o (g .reading))
+          (subst (λ (b : Bool). Reading t (g .chunks) (atDesk d) b before) o (g .reading))
           (as-long (r .got) (s .buffer) (s .long)) (s .delivered .stands .end-is ∙ zero-add _));
       counts = rw (length-append (g .chunks) (firstBytes (r .got) (s .buffer) ∷ [])) (omega (arith, g .counts));
     }
 
--- ---- what a read answered
-pub read-negative : {b : Bool} (z : ℤ) → SFits w64 z → ltZ (toZ w64 (ofZ w64 z)) (pos 0) ≡ b → ltZ z (pos 0) ≡ b
-read-negative z f e = ap (λ (x : ℤ). ltZ x (pos 0)) (sym (toZ-ofZ f)) ∙ e
+-- ---- what a call of the system answered
+pub below-zero : {w : Width} {b : Bool} (z : ℤ) → SFits w z → ltZ (toZ w (ofZ w z)) (pos 0) ≡ b → ltZ z (pos 0) ≡ b
+below-zero z f e = ap (λ (x : ℤ). ltZ x (pos 0)) (sym (toZ-ofZ f)) ∙ e
 
 pub negative-fine :
     (z : ℤ) (interrupted wrote : Bool) → ltZ z (pos 0) ≡ true → cond interrupted wrote false
@@ -105,11 +106,11 @@ pub hands :
     {text out out′ : List ℕ} {at handed : ℕ} → Stands text 0 out at out′ → handed ≡ at → Stands text 0 out handed out′
 hands s e = record { end-is = e ∙ s .end-is; out-is = s .out-is }
 
-module _ {t : Terminal} {out out′ : List ℕ} {said : Said} {listed : Wrote}
-    (s : Delivered (ends t) out (said .desk) (said .wrote) out′) where
+module _ {t : Table} {x : Terminal} {out out′ : List ℕ} {said : Said} {listed : Wrote}
+    (s : Delivered (ends t x) out (said .desk) (said .wrote) out′) where
   pub lists :
       {out″ : List ℕ} → said .wrote .fine ≡ true → Stands (listing (said .desk .book)) 0 out′ (listed .handed) out″
-      → ClosedBy t (record { last = said .wrote; listed = listed })
+      → ClosedBy t x (record { last = said .wrote; listed = listed })
   lists f l =
       record {
         handed-is = s .stands .end-is ∙ zero-add _;
@@ -118,7 +119,7 @@ module _ {t : Terminal} {out out′ : List ℕ} {said : Said} {listed : Wrote}
       }
 
   pub lists-nothing :
-      said .wrote .fine ≡ false → listed .handed ≡ 0 → ClosedBy t (record { last = said .wrote; listed = listed })
+      said .wrote .fine ≡ false → listed .handed ≡ 0 → ClosedBy t x (record { last = said .wrote; listed = listed })
   lists-nothing f l =
       record {
         handed-is = s .stands .end-is ∙ zero-add _;

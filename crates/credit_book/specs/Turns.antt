@@ -1,5 +1,6 @@
 -- What the program's functions hold to. No contract can say what a call of the system read or wrote; these say it of
 -- values: what a read answered, how many bytes standard output was handed, and what stood in the buffer they came from.
+-- t is the table of standards, one for the whole run, and x a terminal.
 use Prim.Native.Nat.{ℕ, zero, suc}
 use mathlib.Core.Bool.{Bool, true, false, cond}
 use mathlib.Core.Path.{_≡_}
@@ -7,6 +8,7 @@ use mathlib.Core.List.{List, [], _∷_, _++_}
 use lib.IntN.{ℤ, pos, negsuc}
 use lib.ListN.{length, take}
 use Rattle.io.specs.Counts.{clamped}
+use Rattle.figuring.specs.Tables.{Table}
 use Rattle.text.specs.declared.desk.Desk.{Desk}
 use Rattle.text.specs.Desk.{Terminal, atDesk, takesAll, ends}
 use Rattle.text.specs.Listing.{listing}
@@ -29,10 +31,10 @@ outRoom = 262144
 abbrev pub mostTurns : ℕ
 mostTurns = 18446744073709551615
 
--- a desk after what the terminal t said was written: it stands at the buffer's start, and all of it was handed over
-pub record Delivered (t : Terminal) (out : List ℕ) (d : Desk) (wrote : Wrote) (out′ : List ℕ) : Type 0 where
-  pub desk-is : atDesk d ≡ written t
-  pub stands : Stands (t .said) 0 out (wrote .handed) out′
+-- a desk after what the terminal x said was written: it stands at the buffer's start, and all of it was handed over
+pub record Delivered (x : Terminal) (out : List ℕ) (d : Desk) (wrote : Wrote) (out′ : List ℕ) : Type 0 where
+  pub desk-is : atDesk d ≡ written x
+  pub stands : Stands (x .said) 0 out (wrote .handed) out′
 
 -- the first bytes of a buffer, as many as a read answered: none where it failed
 abbrev pub firstBytes : ℤ → List ℕ → List ℕ
@@ -52,28 +54,28 @@ readsOn (negsuc k) fine = fine
 
 -- a turn: there is a buffer, in the code the one that the read was lent, whose first bytes the desk took; all that it
 -- said is written
-pub record Turned (d : Desk) (out : List ℕ) (r : Turn) (out′ : List ℕ) : Type 0 where
+pub record Turned (t : Table) (d : Desk) (out : List ℕ) (r : Turn) (out′ : List ℕ) : Type 0 where
   pub buffer : List ℕ
   pub long : length buffer ≡ chunkRoom
-  pub delivered : Delivered (takesAll (atDesk d) (firstBytes (r .got) buffer)) out (r .desk) (r .wrote) out′
+  pub delivered : Delivered (takesAll t (atDesk d) (firstBytes (r .got) buffer)) out (r .desk) (r .wrote) out′
 
 -- the chunks that were read, the terminal that took them, whether there may be more, and whether nothing failed:
 -- in each turn all that the terminal said was handed over, and each turn but the last left more to read
-pub data Reading : List (List ℕ) → Terminal → Bool → Bool → Type 0 where
-  begun : Reading [] opened true true
+pub data Reading (t : Table) : List (List ℕ) → Terminal → Bool → Bool → Type 0 where
+  begun : Reading t [] opened true true
   turn :
-      {chunks : List (List ℕ)} {t : Terminal} {before : Bool}
+      {chunks : List (List ℕ)} {x : Terminal} {before : Bool}
       (chunk : List ℕ) (got : ℤ) (interrupted : Bool) (wrote : Wrote)
-      → Reading chunks t true before
+      → Reading t chunks x true before
       → length chunk ≡ clamped got chunkRoom
-      → wrote .handed ≡ length (takesAll t chunk .said)
-      → Reading (chunks ++ (chunk ∷ [])) (written (takesAll t chunk))
+      → wrote .handed ≡ length (takesAll t x chunk .said)
+      → Reading t (chunks ++ (chunk ∷ [])) (written (takesAll t x chunk))
       (readsOn got (turnFine got interrupted (wrote .fine))) (turnFine got interrupted (wrote .fine))
 
 -- the input is read to its end, to a failure, or until the turns are used up
-pub record ReadBy (r : Input) : Type 0 where
+pub record ReadBy (t : Table) (r : Input) : Type 0 where
   pub chunks : List (List ℕ)
-  pub reading : Reading chunks (atDesk (r .desk)) (r .more) (r .fine)
+  pub reading : Reading t chunks (atDesk (r .desk)) (r .more) (r .fine)
   pub counts : r .turns ≡ length chunks
   pub used-up : r .more ≡ true → r .turns ≡ mostTurns
 
@@ -82,25 +84,25 @@ abbrev pub atEnd : Bool → Bool → Bool
 atEnd more fine = cond more false fine
 
 -- the end of the input: all of the last line's answer, then, if that was fine, all of the listing of the book after it
-pub record ClosedBy (t : Terminal) (r : Closed) : Type 0 where
-  pub handed-is : r .last .handed ≡ length (ends t .said)
-  pub listed-is : r .last .fine ≡ true → r .listed .handed ≡ length (listing (ends t .book))
+pub record ClosedBy (t : Table) (x : Terminal) (r : Closed) : Type 0 where
+  pub handed-is : r .last .handed ≡ length (ends t x .said)
+  pub listed-is : r .last .fine ≡ true → r .listed .handed ≡ length (listing (ends t x .book))
   pub unlisted : r .last .fine ≡ false → r .listed .handed ≡ 0
 
--- what the terminal t says to the chunks, turn by turn
-unfoldable pub saidTo : Terminal → List (List ℕ) → List ℕ
-saidTo t [] = []
-saidTo t (c ∷ cs) = takesAll t c .said ++ saidTo (written (takesAll t c)) cs
+-- what the terminal x says to the chunks, turn by turn
+unfoldable pub saidTo : Table → Terminal → List (List ℕ) → List ℕ
+saidTo t x [] = []
+saidTo t x (c ∷ cs) = takesAll t x c .said ++ saidTo t (written (takesAll t x c)) cs
 
 -- a run: the input, and what is written at its end, if it came to it and nothing failed
-pub record RanBy (r : Ran) : Type 0 where
-  pub read : ReadBy (r .input)
-  pub closes : atEnd (r .input .more) (r .input .fine) ≡ true → ClosedBy (atDesk (r .input .desk)) (r .closed)
+pub record RanBy (t : Table) (r : Ran) : Type 0 where
+  pub read : ReadBy t (r .input)
+  pub closes : atEnd (r .input .more) (r .input .fine) ≡ true → ClosedBy t (atDesk (r .input .desk)) (r .closed)
   pub unclosed :
       atEnd (r .input .more) (r .input .fine) ≡ false
       → (r .closed .last .handed ≡ 0) × (r .closed .listed .handed ≡ 0)
   -- what the turns, the last line and the listing say is together the terminal's answer to the bytes that were read
   pub whole :
-      saidTo opened (read .chunks)
-      ++ (ends (atDesk (r .input .desk)) .said ++ listing (ends (atDesk (r .input .desk)) .book))
-      ≡ terminal (joined (read .chunks))
+      saidTo t opened (read .chunks)
+      ++ (ends t (atDesk (r .input .desk)) .said ++ listing (ends t (atDesk (r .input .desk)) .book))
+      ≡ terminal t (joined (read .chunks))

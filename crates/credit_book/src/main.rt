@@ -1,16 +1,27 @@
 // The program of document 01: from a fresh book, reads standard input to its end, answers each line, lists the cells.
+// All that answers is handed one table of standards: that of the file std.txt, or the built-in one.
 // The contracts speak of values, since none can say what a call of the system read or wrote (specs/Turns.antt).
+mod std_file;
+
 ghost use Prim.Native.Nat.{_≤_};
 ghost use mathlib.Core.Bool.{true};
 ghost use mathlib.Core.Path.{_≡_};
 ghost use lib.ListN.{length};
+ghost use Rattle.book.specs.declared.answers.Answer.{Answer};
+ghost use Rattle.text.specs.Answers.{textOf};
 ghost use Rattle.text.specs.Desk.{atDesk, ends, takesAll};
 ghost use Rattle.text.specs.Listing.{listing};
 ghost use Rattle.text.specs.Placing.{Stands};
 ghost use Rattle.credit_book.specs.Turns.{ClosedBy, Delivered, RanBy, ReadBy, Turned};
 ghost use Rattle.credit_book.specs.Turns.{atEnd, chunkRoom, firstBytes, outRoom, readsOn, turnFine};
+ghost use Rattle.credit_book.specs.Whole.{NotRun, ProgramBy};
+use book::answers::Answer;
+use book::answers::Refusal;
+use figuring::tables::Table;
 use libc::STDIN_FILENO;
 use libc::STDOUT_FILENO;
+use std_file::TableFile;
+use std_file::load_std_file;
 use text::answering::ANSWER_ROOM;
 use text::desk::Desk;
 
@@ -59,6 +70,13 @@ pub struct Ran {
     pub closed: Closed,
 }
 
+// What became of std.txt, the writing of a refused table's answer, and the run.
+pub struct Outcome {
+    pub file: TableFile,
+    pub answer: Wrote,
+    pub ran: Ran,
+}
+
 fn written(text: &[u8]) -> Wrote
     ensures { λ r. ⌜ r .handed ≡ length (now (text .entry)) ⌝ }
 {
@@ -91,22 +109,22 @@ fn say(desk: Desk, at: usize, out: &[u8]) -> Said
     Said { desk, wrote }
 }
 
-fn answer_chunk(desk: Desk, chunk: &[u8], out: &mut [u8]) -> Said
+fn answer_chunk(desk: Desk, table: Table, chunk: &[u8], out: &mut [u8]) -> Said
     requires { ⌜ (length (now chunk) ≤ chunkRoom) × (outRoom ≤ length (now out)) ⌝ }
-    ensures { λ r. ⌜ Delivered (takesAll (atDesk desk) (now (chunk .entry)))
+    ensures { λ r. ⌜ Delivered (takesAll table (atDesk desk) (now (chunk .entry)))
         (now (out .entry)) (r .desk) (r .wrote) (now (out .exit)) ⌝ }
 {
-    let reply = text::desk::take_in(desk, chunk, out);
+    let reply = text::desk::take_in(desk, table, chunk, out);
     let after = reply.desk;
     say(after, reply.at, out)
 }
 
 // The answer to a last line that lacks its line feed.
-fn answer_last(desk: Desk, out: &mut [u8]) -> Said
+fn answer_last(desk: Desk, table: Table, out: &mut [u8]) -> Said
     requires { ⌜ outRoom ≤ length (now out) ⌝ }
-    ensures { λ r. ⌜ Delivered (ends (atDesk desk)) (now (out .entry)) (r .desk) (r .wrote) (now (out .exit)) ⌝ }
+    ensures { λ r. ⌜ Delivered (ends table (atDesk desk)) (now (out .entry)) (r .desk) (r .wrote) (now (out .exit)) ⌝ }
 {
-    let ended = text::desk::last(desk, out);
+    let ended = text::desk::last(desk, table, out);
     let after = ended.desk;
     say(after, ended.at, out)
 }
@@ -138,19 +156,19 @@ fn reads_on(got: isize, fine: bool) -> bool
 }
 
 // Answers what a read left at the buffer's start, as many bytes as it answered, be it none.
-fn answer_read(desk: Desk, buffer: &[u8], got: isize, out: &mut [u8]) -> Said
+fn answer_read(desk: Desk, table: Table, buffer: &[u8], got: isize, out: &mut [u8]) -> Said
     requires { ⌜ (length (now buffer) ≡ chunkRoom) × (outRoom ≤ length (now out)) ⌝ }
-    ensures { λ r. ⌜ Delivered (takesAll (atDesk desk) (firstBytes got (now (buffer .entry))))
+    ensures { λ r. ⌜ Delivered (takesAll table (atDesk desk) (firstBytes got (now (buffer .entry))))
         (now (out .entry)) (r .desk) (r .wrote) (now (out .exit)) ⌝ }
 {
     let n = io::count(got, buffer);
-    answer_chunk(desk, &buffer[..n], out)
+    answer_chunk(desk, table, &buffer[..n], out)
 }
 
 // Reads once, and answers what came.
-fn read_some(desk: Desk, out: &mut [u8]) -> Turn
+fn read_some(desk: Desk, table: Table, out: &mut [u8]) -> Turn
     requires { ⌜ outRoom ≤ length (now out) ⌝ }
-    ensures { λ r. ⌜ Turned desk (now (out .entry)) r (now (out .exit)) ⌝ }
+    ensures { λ r. ⌜ Turned table desk (now (out .entry)) r (now (out .exit)) ⌝ }
 {
     let mut chunk = [0u8; CHUNK];
     let got = libc::read(STDIN_FILENO, &mut chunk);
@@ -158,7 +176,7 @@ fn read_some(desk: Desk, out: &mut [u8]) -> Turn
     if got < 0 && !interrupted {
         os::fail(b"credit-book: standard input");
     }
-    let said = answer_read(desk, &chunk, got, out);
+    let said = answer_read(desk, table, &chunk, got, out);
     let d = said.desk;
     let wrote = said.wrote;
     Turn {
@@ -170,16 +188,16 @@ fn read_some(desk: Desk, out: &mut [u8]) -> Turn
 }
 
 // A proved loop has to end, and nothing says that the input does: it counts its turns up to a number no run reaches.
-fn read_all(out: &mut [u8]) -> Input
+fn read_all(table: Table, out: &mut [u8]) -> Input
     requires { ⌜ outRoom ≤ length (now out) ⌝ }
-    ensures { λ r. ⌜ ReadBy r ⌝ }
+    ensures { λ r. ⌜ ReadBy table r ⌝ }
 {
     let mut desk = text::desk::open_desk();
     let mut turns: u64 = 0;
     let mut more = true;
     let mut fine = true;
     while more && turns < u64::MAX {
-        let turn = read_some(desk, out);
+        let turn = read_some(desk, table, out);
         let wrote = turn.wrote;
         desk = turn.desk;
         fine = turn_fine(turn.got, turn.interrupted, wrote.fine);
@@ -202,12 +220,12 @@ fn at_end(more: bool, fine: bool) -> bool
 }
 
 // The end of the input: the last line's answer, then the cells.
-fn close(input: Input, out: &mut [u8]) -> Closed
+fn close(input: Input, table: Table, out: &mut [u8]) -> Closed
     requires { ⌜ (atEnd (input .more) (input .fine) ≡ true) × (outRoom ≤ length (now out)) ⌝ }
-    ensures { λ r. ⌜ ClosedBy (atDesk (input .desk)) r ⌝ }
+    ensures { λ r. ⌜ ClosedBy table (atDesk (input .desk)) r ⌝ }
 {
     let desk = input.desk;
-    let said = answer_last(desk, out);
+    let said = answer_last(desk, table, out);
     let last = said.wrote;
     if last.fine {
         let listed = list_cells(said, out);
@@ -217,13 +235,13 @@ fn close(input: Input, out: &mut [u8]) -> Closed
     Closed { last, listed }
 }
 
-fn run(out: &mut [u8]) -> Ran
+fn run(table: Table, out: &mut [u8]) -> Ran
     requires { ⌜ outRoom ≤ length (now out) ⌝ }
-    ensures { λ r. ⌜ RanBy r ⌝ }
+    ensures { λ r. ⌜ RanBy table r ⌝ }
 {
-    let input = read_all(out);
+    let input = read_all(table, out);
     if at_end(input.more, input.fine) {
-        let closed = close(input, out);
+        let closed = close(input, table, out);
         return Ran { input, closed };
     }
     let last = unwritten();
@@ -231,7 +249,58 @@ fn run(out: &mut [u8]) -> Ran
     Ran { input, closed }
 }
 
+// The answer of a refused table, alone.
+fn refuse(r: Refusal, out: &mut [u8]) -> Wrote
+    requires { ⌜ outRoom ≤ length (now out) ⌝ }
+    ensures { λ w. ⌜ Stands (textOf (Answer.Refused r)) 0 (now (out .entry)) (w .handed) (now (out .exit)) ⌝ }
+{
+    let placed = text::answering::put_answer(out, 0, Answer::Refused(r));
+    let at = placed.at;
+    written(&out[..at])
+}
+
+// No run: nothing is read.
+fn unrun() -> Ran
+    ensures { λ r. ⌜ NotRun r ⌝ }
+{
+    let desk = text::desk::open_desk();
+    let input = Input {
+        desk,
+        turns: 0,
+        more: true,
+        fine: false,
+    };
+    let last = unwritten();
+    let closed = Closed { last, listed: last };
+    Ran { input, closed }
+}
+
+fn program(out: &mut [u8]) -> Outcome
+    requires { ⌜ outRoom ≤ length (now out) ⌝ }
+    ensures { λ r. ⌜ ProgramBy (now (out .entry)) r (now (out .exit)) ⌝ }
+{
+    let mut table = figuring::grid::printed_grid();
+    let file = load_std_file(&mut table);
+    match file {
+        TableFile::Absent | TableFile::Loaded => {
+            let ran = run(table, out);
+            let answer = unwritten();
+            Outcome { file, answer, ran }
+        }
+        TableFile::Refused(r) => {
+            let answer = refuse(r, out);
+            let ran = unrun();
+            Outcome { file, answer, ran }
+        }
+        TableFile::Unreadable => {
+            let answer = unwritten();
+            let ran = unrun();
+            Outcome { file, answer, ran }
+        }
+    }
+}
+
 fn main() {
     let mut out = [0u8; OUT_ROOM];
-    run(&mut out);
+    program(&mut out);
 }

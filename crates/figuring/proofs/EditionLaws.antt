@@ -1,4 +1,4 @@
--- Card 5: the standard under an edition, when there is none, and its range.
+-- Card 5: the standard under an edition, beside whatever ordinary one, when there is none, and its range.
 use Prim.Native.Nat.{ℕ, zero, suc, _≤_, _<_}
 use mathlib.Core.Bool.{Bool, true, false, not, cond, _&&_, _||_, true≢false}
 use mathlib.Core.List.{List}
@@ -8,13 +8,15 @@ use native.Mathlib.Decide.{ℕ-discrete}
 use borrow.Author.Tests.{leb-true, ltb-false, lt-ltb, lt-leb, ne-eqb}
 use lib.Dec.{ltb, leb, eqb}
 use lib.ListN.{getD}
-use Rattle.figuring.specs.Parts.{standardLeast}
-use Rattle.figuring.specs.Standards.{_through_, standardFor, gramsOf, isAbsent}
+use Rattle.figuring.specs.Parts.{between, standardLeast, standardMost}
+use Rattle.figuring.specs.Standards.{_through_, gramsOf, isAbsent}
+use Rattle.figuring.specs.Tables.{Table, isStandard, ordinaryIn}
 use Rattle.figuring.specs.Editions.{earlierTable, laterTable, alternativeSets, alternativeYears, inTable, alternativeFor}
 use Rattle.figuring.specs.Editions.{standardUnder, noEdition, CardEditions}
 use Rattle.figuring.specs.declared.standards.Standard.{Standard}
 use Rattle.figuring.specs.declared.standards.Standard.the-variants.{Given, Absent}
-use Rattle.figuring.proofs.StandardLaws.{either, inRange, in-either, in-range, range-is, present-given, use-known}
+use Rattle.figuring.proofs.StandardLaws.{either, inRange, in-either, range-is, present-given}
+use Rattle.figuring.proofs.TableLaws.{ordinary-in-range, use-known}
 
 -- ---- none
 absent-either : (b : Bool) (x z : Standard) → x ≡ Absent → z ≡ Absent → cond b x z ≡ Absent
@@ -22,16 +24,16 @@ absent-either b x z = either (λ j x. x ≡ Absent) b 0 0 x z
 
 -- where neither table has a standard for a set and a use, no edition but the ordinary one has
 absent-in-both :
-    (e s u y : ℕ) → 0 < e → inTable earlierTable s u ≡ Absent → inTable laterTable s u ≡ Absent
-    → standardUnder e s u y ≡ Absent
+    (x : Standard) (e s u y : ℕ) → 0 < e → inTable earlierTable s u ≡ Absent → inTable laterTable s u ≡ Absent
+    → standardUnder x e s u y ≡ Absent
 unfolding standardUnder alternativeFor
-absent-in-both e s u y h p q =
+absent-in-both x e s u y h p q =
     rw (ne-eqb e 0 (λ z. omega arith))
     (absent-either (alternativeYears y) _ _ (absent-either (eqb e 1) _ _ p (absent-either (eqb e 2) _ _ q refl)) refl)
 
-above-2 : (e s u y : ℕ) → 2 < e → standardUnder e s u y ≡ Absent
+above-2 : (x : Standard) (e s u y : ℕ) → 2 < e → standardUnder x e s u y ≡ Absent
 unfolding standardUnder alternativeFor
-above-2 e s u y h =
+above-2 x e s u y h =
     rw (ne-eqb e 0 (λ z. omega arith), ne-eqb e 1 (λ z. omega arith), ne-eqb e 2 (λ z. omega arith))
     (absent-either (alternativeYears y) _ _ refl refl)
 
@@ -79,24 +81,30 @@ outside true false w h = refl
 outside false true w h = sym h
 outside false false w h = refl
 
-module _ (s u y : ℕ) (h : isAbsent (standardFor s u y) ≡ false) where
+-- of whatever table the ordinary standard is read from
+module _ (t : Table) (s u y : ℕ) (h : isAbsent (ordinaryIn t s u y) ≡ false) where
   in-edition :
-      (t : List ℕ) → (not (alternativeSets s) || not (alternativeYears y)) ≡ isAbsent (cond (alternativeYears y) (inTable t s u) Absent)
-  in-edition t = outside (alternativeSets s) (alternativeYears y) (inTable t s u) (table-absent t s u (use-known s u y h))
+      (table : List ℕ)
+      → (not (alternativeSets s) || not (alternativeYears y)) ≡ isAbsent (cond (alternativeYears y) (inTable table s u) Absent)
+  in-edition table =
+      outside (alternativeSets s) (alternativeYears y) (inTable table s u) (table-absent table s u (use-known t s u y h))
 
-  pub seventeen : (e : ℕ) → noEdition e s y ≡ isAbsent (standardUnder e s u y)
+  seventeen : (e : ℕ) → noEdition e s y ≡ isAbsent (standardUnder (ordinaryIn t s u y) e s u y)
   unfolding noEdition standardUnder alternativeFor isAbsent
   seventeen e = go (ℕ-discrete e 0) (ℕ-discrete e 1) (ℕ-discrete e 2)
     where
-      go : Dec (e ≡ 0) → Dec (e ≡ 1) → Dec (e ≡ 2) → noEdition e s y ≡ isAbsent (standardUnder e s u y)
-      go (yes p) o t = rw p (sym h)
-      go (no z) (yes p) t = rw p (in-edition earlierTable)
+      go : Dec (e ≡ 0) → Dec (e ≡ 1) → Dec (e ≡ 2) → noEdition e s y ≡ isAbsent (standardUnder (ordinaryIn t s u y) e s u y)
+      go (yes p) o w = rw p (sym h)
+      go (no z) (yes p) w = rw p (in-edition earlierTable)
       go (no z) (no o) (yes p) = rw p (in-edition laterTable)
-      go (no z) (no o) (no t) = rw (lt-ltb 2 e (omega arith)) (sym (ap isAbsent (above-2 e s u y (omega arith))))
+      go (no z) (no o) (no w) =
+          rw (lt-ltb 2 e (omega arith)) (sym (ap isAbsent (above-2 (ordinaryIn t s u y) e s u y (omega arith))))
 
   -- where 17 does not apply there is a standard
-  pub named : (e : ℕ) → noEdition e s y ≡ false → standardUnder e s u y ≡ Given (gramsOf (standardUnder e s u y))
-  named e n = present-given (standardUnder e s u y) (sym (seventeen e) ∙ n)
+  pub named :
+      (e : ℕ) → noEdition e s y ≡ false
+      → standardUnder (ordinaryIn t s u y) e s u y ≡ Given (gramsOf (standardUnder (ordinaryIn t s u y) e s u y))
+  named e n = present-given (standardUnder (ordinaryIn t s u y) e s u y) (sym (seventeen e) ∙ n)
 
 -- an edition that 17 lets pass is 0, 1 or 2
 pub edition-known : (e s y : ℕ) → noEdition e s y ≡ false → e ≤ 2
@@ -119,36 +127,41 @@ table-in-range t s u p₂ p₃ q₂ q₃ =
     at (eqb u 0) _ _ (at (eqb s 2) _ _ p₂ (at (eqb s 3) _ _ p₃ refl))
     (at (eqb u 1) _ _ (at (eqb s 2) _ _ q₂ (at (eqb s 3) _ _ q₃ refl)) refl)
 
-under-in-range : (e s u y : ℕ) → inRange (standardUnder e s u y) ≡ true
-unfolding standardUnder alternativeFor
-under-in-range e s u y =
+under-in-range : (x : Standard) (e s u y : ℕ) → inRange x ≡ true → inRange (standardUnder x e s u y) ≡ true
+unfolding standardUnder alternativeFor isStandard between
+under-in-range x e s u y h =
     let at = in-either in
-    at (eqb e 0) _ _ (in-range s u y)
+    at (eqb e 0) _ _ h
     (at (alternativeYears y) _ _
     (at (eqb e 1) _ _ (table-in-range earlierTable s u refl refl refl refl)
     (at (eqb e 2) _ _ (table-in-range laterTable s u refl refl refl refl) refl))
     refl)
 
-pub under-range : (e s u y : ℕ) {g : ℕ} → standardUnder e s u y ≡ Given g → (432 ≤ g) × (g ≤ 627)
-under-range e s u y d = range-is (standardUnder e s u y) (under-in-range e s u y) d
+under-range :
+    (t : Table) (e s u y : ℕ) {g : ℕ} → standardUnder (ordinaryIn t s u y) e s u y ≡ Given g
+    → (standardLeast ≤ g) × (g ≤ standardMost)
+under-range t e s u y d =
+    let x = ordinaryIn t s u y in
+    range-is (standardUnder x e s u y) (under-in-range x e s u y (ordinary-in-range t s u y)) d
 
 -- of a family that 6 and 17 let pass
 pub named-range :
-    (e s u y : ℕ) → isAbsent (standardFor s u y) ≡ false → noEdition e s y ≡ false
-    → (standardLeast ≤ gramsOf (standardUnder e s u y)) × (gramsOf (standardUnder e s u y) ≤ 627)
-named-range e s u y h n = under-range e s u y (named s u y h e n)
+    (t : Table) (e s u y : ℕ) → isAbsent (ordinaryIn t s u y) ≡ false → noEdition e s y ≡ false
+    → (standardLeast ≤ gramsOf (standardUnder (ordinaryIn t s u y) e s u y))
+    × (gramsOf (standardUnder (ordinaryIn t s u y) e s u y) ≤ standardMost)
+named-range t e s u y h n = under-range t e s u y (named t s u y h e n)
 
 -- ---- the card's words
 pub card-editions : CardEditions
 unfolding standardUnder alternativeFor inTable alternativeYears noEdition
 card-editions =
     record {
-      ordinary = λ s u y. (refl, refl);
-      earlier = λ y. (refl, refl, refl, refl);
-      later = λ y. (refl, refl, refl, refl);
+      ordinary = λ x s u y. (refl, refl);
+      earlier = λ x y. (refl, refl, refl, refl);
+      later = λ x y. (refl, refl, refl, refl);
       no-other = above-2;
-      no-other-set = λ e s u y h n. absent-in-both e s u y h (no-set earlierTable s u n) (no-set laterTable s u n);
-      no-other-use = λ e s u y h n. absent-in-both e s u y h (no-use earlierTable s u n) (no-use laterTable s u n);
-      seventeen = λ e s u y h. seventeen s u y h e;
+      no-other-set = λ x e s u y h n. absent-in-both x e s u y h (no-set earlierTable s u n) (no-set laterTable s u n);
+      no-other-use = λ x e s u y h n. absent-in-both x e s u y h (no-use earlierTable s u n) (no-use laterTable s u n);
+      seventeen = λ t e s u y h. seventeen t s u y h e;
       range = under-range;
     }

@@ -1,14 +1,12 @@
 -- Card 2: the standards read from "a grid of 24 years by 6 columns", 0 for none.
--- `printedGrid` is what the grid in the source is promised to be. Where a standard is read in it, by row and column, is
--- said for functions of this layer alone: their caller is promised `standardFor`.
+-- `printedGrid` is what the grid in the source is promised to be. Card 7 takes it as the built-in table, and reads any
+-- table by these rows and columns (Tables).
 use Prim.Native.Nat.{ℕ, zero, suc, _-_, min}
 use mathlib.Core.Bool.{cond}
 use mathlib.Core.List.{List, [], _∷_}
 use lib.Dec.{eqb}
 use Rattle.figuring.specs.Standards.{standardFor, gramsOf}
 use Rattle.figuring.specs.Years.{firstYear, lastYear}
-use Rattle.figuring.specs.declared.standards.Standard.{Standard}
-use Rattle.figuring.specs.declared.standards.Standard.the-variants.{Given, Absent}
 
 -- a row for each model year, an entry for each column
 abbrev pub Grid : Type 0
@@ -50,7 +48,3 @@ columnOf s u =
     cond (eqb u 0)
     (cond (eqb s 0) 0 (cond (eqb s 1) 1 (cond (eqb s 2) 2 (cond (eqb s 3) 3 gridColumns))))
     (cond (eqb u 1) (cond (eqb s 2) 4 (cond (eqb s 3) 5 gridColumns)) gridColumns)
-
--- The standard that an entry is; 0 is none.
-unfoldable pub standardOf : ℕ → Standard
-standardOf n = cond (eqb n 0) Absent (Given n)

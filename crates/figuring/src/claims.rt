@@ -6,6 +6,7 @@ ghost use Rattle.figuring.specs.Marked.{FiguringMarked};
 ghost use Rattle.figuring.specs.Units.{engineUnit};
 ghost use Rattle.figuring.specs.Netting.{RoundsToNearest};
 ghost use Rattle.figuring.specs.Editions.{CardEditions};
+ghost use Rattle.figuring.specs.Tables.{CardTables};
 ghost use Rattle.figuring.specs.FiveDecimals.{CardFigures, OldFigures, SameMg};
 
 // What a sum of parts earns, less its shortfall, is its nearest Mg; it has only one, and never both sides at once.
@@ -18,6 +19,13 @@ pub fn rounds_to_nearest() -> bool
 // Card 4: its figures, those before it, and that the Mg of every old figure are the same once its CF is multiplied by 10.
 pub fn same_mg() -> bool
     ensures { λ r. ⌜ (r ≡ true) × CardFigures × OldFigures × SameMg ⌝ }
+{
+    true
+}
+
+// Card 7: what an accepted table is, that its standards are its entries, and that the built-in one is the printed one.
+pub fn card_tables() -> bool
+    ensures { λ r. ⌜ (r ≡ true) × CardTables ⌝ }
 {
     true
 }

@@ -3,7 +3,6 @@ ghost use mathlib.Core.Path.{_≡_};
 ghost use Rattle.figuring.specs.Editions.{alternativeSets, alternativeYears, inTable, alternativeFor};
 ghost use Rattle.figuring.specs.Editions.{standardUnder, noEdition};
 use crate::standards::Standard;
-use crate::standards::standard_for;
 
 // The two tables in g/hp-hr: medium vocational, heavy vocational, medium tractor, heavy tractor.
 //                         2    3    2    3      set
@@ -13,11 +12,17 @@ const EARLIER: [u16; 4] = [538, 506, 467, 442];
 const LATER: [u16; 4] = [542, 510, 467, 442];
 
 // The standard that a family names, for any edition, set, use and year: 0 is the ordinary one.
-pub fn standard_under(edition: u64, set: u64, vehicle_use: u64, year: u64) -> Standard
-    ensures { λ r. ⌜ r ≡ standardUnder edition set «vehicle_use» year ⌝ }
+pub fn standard_under(
+    ordinary: Standard,
+    edition: u64,
+    set: u64,
+    vehicle_use: u64,
+    year: u64,
+) -> Standard
+    ensures { λ r. ⌜ r ≡ standardUnder ordinary edition set «vehicle_use» year ⌝ }
 {
     if edition == 0 {
-        return standard_for(set, vehicle_use, year);
+        return ordinary;
     }
     alternative_for(edition, set, vehicle_use, year)
 }

@@ -3,16 +3,17 @@ ghost use mathlib.Core.Path.{_≡_};
 ghost use Prim.Native.Nat.{_≤_, _<_};
 ghost use Rattle.figuring.specs.Grid.{gridYears, printedGrid, rowOf, columnOf};
 ghost use Rattle.figuring.specs.Years.{firstYear};
+use crate::tables::Table;
 use crate::years::FIRST_YEAR;
 use crate::years::LAST_YEAR;
 
-const YEARS: usize = 24;
+pub const YEARS: usize = 24;
 
-pub(crate) const COLUMNS: usize = 6;
+pub const COLUMNS: usize = 6;
 
 // The standards of 2014 to 2037 in g/hp-hr, 0 for none: a line a year, its year beside it. The columns are set 0,
 // set 1, medium vocational, heavy vocational, medium tractor, heavy tractor.
-const STANDARDS: [[u16; COLUMNS]; YEARS] = [
+const STANDARDS: Table = [
     // 0    1    2    3    2    3      set
     // 0    0    0    0    1    1      use
     [0, 600, 600, 567, 502, 475], // 2014
@@ -41,8 +42,8 @@ const STANDARDS: [[u16; COLUMNS]; YEARS] = [
     [627, 552, 535, 503, 457, 432], // 2037
 ];
 
-// The grid, which is the printed one.
-pub fn printed_grid() -> [[u16; COLUMNS]; YEARS]
+// The grid, which is the printed one: the built-in table of card 7.
+pub fn printed_grid() -> Table
     ensures { λ r. ⌜ r ≡ printedGrid ⌝ }
 {
     STANDARDS

@@ -7,11 +7,11 @@ use mathlib.Core.Path.{_≡_, refl, sym, _∙_, ap, ap₂, subst}
 use borrow.Author.Tests.{eqb-false}
 use lib.Dec.{eqb}
 use lib.ListN.{take}
-use Rattle.book.specs.Rules.{posted}
+use Rattle.figuring.specs.Tables.{Table}
+use Rattle.book.specs.Rules.{Request, handed, postedTo}
 use Rattle.book.specs.Demand3.{isAccepted}
 use Rattle.book.specs.Companions.{keepIf, acceptedOnly}
 use Rattle.book.specs.declared.ledger.Book.{Book}
-use Rattle.book.specs.declared.kinds.Call.{Call}
 use Rattle.book.proofs.RefusalLaws.{demand1}
 use Rattle.text.specs.declared.lines.Line.{Line}
 use Rattle.text.specs.Line.{lineOf}
@@ -20,7 +20,7 @@ use Rattle.text.specs.Lines.{linesFrom, linesOf, OneLine}
 use Rattle.text.specs.Rendered.{rendered}
 use Rattle.text.proofs.FormLaws.{reads}
 use Rattle.text.proofs.SessionLaws.{lines}
-use Rattle.shown.specs.Calls.{callIn, callsOf, answersOf, inTurn}
+use Rattle.shown.specs.Calls.{callIn, callsOf, requests, answersOf, inTurn}
 use Rattle.shown.specs.Journal.{journalOf}
 use Rattle.shown.specs.Shown.{Every, Accepts}
 
@@ -47,105 +47,111 @@ one-lines l (x ∷ s) h =
     go true e p q = (h, p)
     go false e p q = q (eqb-false x lineFeed e)
 
--- ---- calls that were read from lines: each is read again from its own text
-pub record Line·of (c : Call) : Type 0 where
-  pub reads-as : lineOf (rendered c) ≡ Line.Form c
-  pub one : OneLine (rendered c)
+-- ---- calls that were read from lines, with the table t: each is read again from its own text
+pub record Line·of (t : Table) (r : Request) : Type 0 where
+  pub reads-as : lineOf (rendered (r .call)) ≡ Line.Form (r .call)
+  pub one : OneLine (rendered (r .call))
+  pub hands : handed t (r .call) ≡ r
 
-abbrev pub Written : List Call → Type 0
-Written [] = Unit {0}
-Written (c ∷ cs) = Line·of c × Written cs
+abbrev pub Written : Table → List Request → Type 0
+Written t [] = Unit {0}
+Written t (r ∷ rs) = Line·of t r × Written t rs
 
-written-lines : (ls : List (List ℕ)) → AllOneLine ls → Written (callsOf ls)
+written-lines : (t : Table) (ls : List (List ℕ)) → AllOneLine ls → Written t (requests t (callsOf ls))
 unfolding callsOf
-written-lines [] h = tt
-written-lines (l ∷ ls) h = go (lineOf l) refl (written-lines ls (h .1))
-  where
-    go : (r : Line) → lineOf l ≡ r → Written (callsOf ls) → Written (callIn r ++ callsOf ls)
-    go Line.NoForm e w = w
-    go (Line.Form c) e w =
-        let t : l ≡ rendered c = reads .only l c e .text in
-        (record { reads-as = ap lineOf (sym t) ∙ e; one = subst OneLine t (h .0) }, w)
-
-pub written-calls : (input : List ℕ) → Written (callsOf (linesOf input))
-written-calls input = written-lines (linesOf input) (one-lines [] input tt)
-
-pub written-kept : (b : Book) (cs : List Call) → Written cs → Written (acceptedOnly b cs)
-unfolding acceptedOnly
-written-kept b [] w = tt
-written-kept b (c ∷ cs) w = go (isAccepted (posted b c .answer)) (written-kept (posted b c .book) cs (w .1))
+written-lines t [] h = tt
+written-lines t (l ∷ ls) h = go (lineOf l) refl (written-lines t ls (h .1))
   where
     go :
-        (t : Bool) → Written (acceptedOnly (posted b c .book) cs)
-        → Written (keepIf t c (acceptedOnly (posted b c .book) cs))
+        (r : Line) → lineOf l ≡ r → Written t (requests t (callsOf ls)) → Written t (requests t (callIn r ++ callsOf ls))
+    go Line.NoForm e w = w
+    go (Line.Form c) e w =
+        let d : l ≡ rendered c = reads .only l c e .text in
+        (record { reads-as = ap lineOf (sym d) ∙ e; one = subst OneLine d (h .0); hands = refl }, w)
+
+pub written-calls : (t : Table) (input : List ℕ) → Written t (requests t (callsOf (linesOf input)))
+written-calls t input = written-lines t (linesOf input) (one-lines [] input tt)
+
+pub written-kept : (t : Table) (b : Book) (rs : List Request) → Written t rs → Written t (acceptedOnly b rs)
+unfolding acceptedOnly
+written-kept t b [] w = tt
+written-kept t b (r ∷ rs) w = go (isAccepted (postedTo b r .answer)) (written-kept t (postedTo b r .book) rs (w .1))
+  where
+    go :
+        (e : Bool) → Written t (acceptedOnly (postedTo b r .book) rs)
+        → Written t (keepIf e r (acceptedOnly (postedTo b r .book) rs))
     go true v = (w .0, v)
     go false v = v
 
 -- ---- the journal read back
-journal-lines : (cs : List Call) → Written cs → linesOf (journalOf cs) ≡ map rendered cs
+abbrev lineFor : Request → List ℕ
+lineFor r = rendered (r .call)
+
+journal-lines : (t : Table) (rs : List Request) → Written t rs → linesOf (journalOf rs) ≡ map lineFor rs
 unfolding journalOf linesFrom
-journal-lines [] w = refl
-journal-lines (c ∷ cs) w =
-    lines .ended (rendered c) (journalOf cs) (w .0 .one)
-    ∙ ap (λ (ls : List (List ℕ)). rendered c ∷ ls) (journal-lines cs (w .1))
+journal-lines t [] w = refl
+journal-lines t (r ∷ rs) w =
+    lines .ended (lineFor r) (journalOf rs) (w .0 .one)
+    ∙ ap (λ (ls : List (List ℕ)). lineFor r ∷ ls) (journal-lines t rs (w .1))
 
-texts-read : (cs : List Call) → Written cs → callsOf (map rendered cs) ≡ cs
+texts-read : (t : Table) (rs : List Request) → Written t rs → requests t (callsOf (map lineFor rs)) ≡ rs
 unfolding callsOf
-texts-read [] w = refl
-texts-read (c ∷ cs) w = rw (w .0 .reads-as) (ap (λ (ds : List Call). c ∷ ds) (texts-read cs (w .1)))
+texts-read t [] w = refl
+texts-read t (r ∷ rs) w = rw (w .0 .reads-as) (ap₂ _∷_ (w .0 .hands) (texts-read t rs (w .1)))
 
-pub journal-read : (cs : List Call) → Written cs → callsOf (linesOf (journalOf cs)) ≡ cs
-journal-read cs w = ap callsOf (journal-lines cs w) ∙ texts-read cs w
+pub journal-read : (t : Table) (rs : List Request) → Written t rs → requests t (callsOf (linesOf (journalOf rs))) ≡ rs
+journal-read t rs w = ap (λ (ls : List (List ℕ)). requests t (callsOf ls)) (journal-lines t rs w) ∙ texts-read t rs w
 
 -- ---- the accepted calls put to the book again are accepted again
-pub accepted-again : (b : Book) (cs : List Call) → acceptedOnly b (acceptedOnly b cs) ≡ acceptedOnly b cs
+pub accepted-again : (b : Book) (rs : List Request) → acceptedOnly b (acceptedOnly b rs) ≡ acceptedOnly b rs
 unfolding acceptedOnly
 accepted-again b [] = refl
-accepted-again b (c ∷ cs) = go (isAccepted (posted b c .answer)) refl (accepted-again (posted b c .book) cs)
+accepted-again b (r ∷ rs) = go (isAccepted (postedTo b r .answer)) refl (accepted-again (postedTo b r .book) rs)
   where
     go :
-        (t : Bool) → isAccepted (posted b c .answer) ≡ t
-        → acceptedOnly (posted b c .book) (acceptedOnly (posted b c .book) cs) ≡ acceptedOnly (posted b c .book) cs
-        → acceptedOnly b (keepIf t c (acceptedOnly (posted b c .book) cs))
-        ≡ keepIf t c (acceptedOnly (posted b c .book) cs)
-    go true e ih = rw e (ap (λ (ds : List Call). c ∷ ds) ih)
+        (t : Bool) → isAccepted (postedTo b r .answer) ≡ t
+        → acceptedOnly (postedTo b r .book) (acceptedOnly (postedTo b r .book) rs) ≡ acceptedOnly (postedTo b r .book) rs
+        → acceptedOnly b (keepIf t r (acceptedOnly (postedTo b r .book) rs))
+        ≡ keepIf t r (acceptedOnly (postedTo b r .book) rs)
+    go true e ih = rw e (ap (λ (qs : List Request). r ∷ qs) ih)
     go false e ih =
-        subst (λ (d : Book). acceptedOnly d (acceptedOnly (posted b c .book) cs) ≡ acceptedOnly (posted b c .book) cs)
-        (demand1 b c .unchanged e) ih
+        subst (λ (d : Book). acceptedOnly d (acceptedOnly (postedTo b r .book) rs) ≡ acceptedOnly (postedTo b r .book) rs)
+        (demand1 (r .table) b (r .call) .unchanged e) ih
 
-pub answers-accepted : (b : Book) (cs : List Call) → Every Accepts (answersOf b (acceptedOnly b cs))
+pub answers-accepted : (b : Book) (rs : List Request) → Every Accepts (answersOf b (acceptedOnly b rs))
 unfolding acceptedOnly answersOf
 answers-accepted b [] = tt
-answers-accepted b (c ∷ cs) = go (isAccepted (posted b c .answer)) refl (answers-accepted (posted b c .book) cs)
+answers-accepted b (r ∷ rs) = go (isAccepted (postedTo b r .answer)) refl (answers-accepted (postedTo b r .book) rs)
   where
     go :
-        (t : Bool) → isAccepted (posted b c .answer)
-        ≡ t → Every Accepts (answersOf (posted b c .book) (acceptedOnly (posted b c .book) cs))
-        → Every Accepts (answersOf b (keepIf t c (acceptedOnly (posted b c .book) cs)))
+        (t : Bool) → isAccepted (postedTo b r .answer)
+        ≡ t → Every Accepts (answersOf (postedTo b r .book) (acceptedOnly (postedTo b r .book) rs))
+        → Every Accepts (answersOf b (keepIf t r (acceptedOnly (postedTo b r .book) rs)))
     go true e ih = (e, ih)
     go false e ih =
-        subst (λ (d : Book). Every Accepts (answersOf d (acceptedOnly (posted b c .book) cs)))
-        (demand1 b c .unchanged e) ih
+        subst (λ (d : Book). Every Accepts (answersOf d (acceptedOnly (postedTo b r .book) rs)))
+        (demand1 (r .table) b (r .call) .unchanged e) ih
 
 -- where every line is a form, its answers are the calls'
-dealt-all : (b : Book) (cs : List Call) → Written cs → inTurn (map rendered cs) (answersOf b cs) ≡ answersOf b cs
+dealt-all :
+    (t : Table) (b : Book) (rs : List Request) → Written t rs → inTurn (map lineFor rs) (answersOf b rs) ≡ answersOf b rs
 unfolding inTurn answersOf
-dealt-all b [] w = refl
-dealt-all b (c ∷ cs) w =
-    rw (w .0 .reads-as) (ap (λ xs. posted b c .answer ∷ xs) (dealt-all (posted b c .book) cs (w .1)))
+dealt-all t b [] w = refl
+dealt-all t b (r ∷ rs) w =
+    rw (w .0 .reads-as) (ap (λ xs. postedTo b r .answer ∷ xs) (dealt-all t (postedTo b r .book) rs (w .1)))
 
 pub first-accepted :
-    (b : Book) (cs : List Call) (n : ℕ) → Every Accepts (answersOf b cs) → Every Accepts (answersOf b (take n cs))
+    (b : Book) (rs : List Request) (n : ℕ) → Every Accepts (answersOf b rs) → Every Accepts (answersOf b (take n rs))
 unfolding answersOf
-first-accepted b cs zero h = tt
+first-accepted b rs zero h = tt
 first-accepted b [] (suc n) h = tt
-first-accepted b (c ∷ cs) (suc n) h = (h .0, first-accepted (posted b c .book) cs n (h .1))
+first-accepted b (r ∷ rs) (suc n) h = (h .0, first-accepted (postedTo b r .book) rs n (h .1))
 
 -- a journal of calls that a book accepts, each, is accepted line by line
 pub lines-accepted :
-    (b : Book) (cs : List Call) → Written cs → Every Accepts (answersOf b cs)
-    → Every Accepts (inTurn (linesOf (journalOf cs)) (answersOf b (callsOf (linesOf (journalOf cs)))))
-lines-accepted b cs w h = rw (journal-lines cs w, texts-read cs w, dealt-all b cs w) h
+    (t : Table) (b : Book) (rs : List Request) → Written t rs → Every Accepts (answersOf b rs)
+    → Every Accepts (inTurn (linesOf (journalOf rs)) (answersOf b (requests t (callsOf (linesOf (journalOf rs))))))
+lines-accepted t b rs w h = rw (journal-lines t rs w, texts-read t rs w, dealt-all t b rs w) h
 
 -- ---- a journal cut after a line feed
 -- the line feed of a text that begins with a line stands at that line's end or after it
@@ -164,22 +170,22 @@ first-feed (x ∷ l) r (y ∷ p) q h e f g =
     first-feed l r p q (h .1) d (λ u. f (ap₂ _∷_ (sym a) u)) (λ p′ u v. g p′ (ap₂ _∷_ (sym a) u) v)
 
 pub cut-journal :
-    (cs : List Call) → Written cs → (p q : List ℕ) → journalOf cs ≡ p ++ lineFeed ∷ q
-    → (n : ℕ) × (p ++ lineFeed ∷ [] ≡ journalOf (take n cs))
+    (t : Table) (rs : List Request) → Written t rs → (p q : List ℕ) → journalOf rs ≡ p ++ lineFeed ∷ q
+    → (n : ℕ) × (p ++ lineFeed ∷ [] ≡ journalOf (take n rs))
 unfolding journalOf
-cut-journal [] w [] q e = absurd (let z : _≡_ {A = ℕ} 0 1 = cc in omega arith)
-cut-journal [] w (x ∷ p) q e = absurd (let z : _≡_ {A = ℕ} 0 1 = cc in omega arith)
-cut-journal (c ∷ cs) w p q e =
-    first-feed (rendered c) (journalOf cs) p q (w .0 .one) e
+cut-journal t [] w [] q e = absurd (let z : _≡_ {A = ℕ} 0 1 = cc in omega arith)
+cut-journal t [] w (x ∷ p) q e = absurd (let z : _≡_ {A = ℕ} 0 1 = cc in omega arith)
+cut-journal t (r ∷ rs) w p q e =
+    first-feed (lineFor r) (journalOf rs) p q (w .0 .one) e
     (λ u. (1, ap (λ (l : List ℕ). l ++ lineFeed ∷ []) u))
     (λ p′ u v.
-    let t = cut-journal cs (w .1) p′ q v in (
-      suc (t .0),
-      ap (λ (l : List ℕ). l ++ lineFeed ∷ []) u ∙ append-assoc (rendered c) (lineFeed ∷ p′) (lineFeed ∷ [])
-          ∙ ap (λ (l : List ℕ). rendered c ++ lineFeed ∷ l) (t .1),
+    let h = cut-journal t rs (w .1) p′ q v in (
+      suc (h .0),
+      ap (λ (l : List ℕ). l ++ lineFeed ∷ []) u ∙ append-assoc (lineFor r) (lineFeed ∷ p′) (lineFeed ∷ [])
+          ∙ ap (λ (l : List ℕ). lineFor r ++ lineFeed ∷ l) (h .1),
     ))
 
-pub written-take : (n : ℕ) (cs : List Call) → Written cs → Written (take n cs)
-written-take zero cs w = tt
-written-take (suc n) [] w = tt
-written-take (suc n) (c ∷ cs) w = (w .0, written-take n cs (w .1))
+pub written-take : (t : Table) (n : ℕ) (rs : List Request) → Written t rs → Written t (take n rs)
+written-take t zero rs w = tt
+written-take t (suc n) [] w = tt
+written-take t (suc n) (r ∷ rs) w = (w .0, written-take t n rs (w .1))

@@ -9,13 +9,14 @@ use borrow.Author.Tests.{lt-ltb, le-leb, lt-leb}
 use lib.Dec.{ltb, eqb}
 use lib.ListN.{getD, drop}
 use Rattle.figuring.specs.Years.{firstYear, lastYear}
+use Rattle.figuring.specs.Tables.{Table}
 use Rattle.book.specs.Sizes.{makers, sets, years}
 use Rattle.book.specs.Ledger.{Key, key, In, figureAt}
 use Rattle.figuring.specs.Life.{closedYear, live, expired, openShort, overdue}
 use Rattle.book.specs.Listing.{isCellYear, lotIf, lotEntry, shortageIf, shortageEntry}
-use Rattle.book.specs.Accounts.{Accounts, asAccepted, move, feed, feedAll}
+use Rattle.book.specs.Accounts.{Accounts, move, feed, feedAll}
 use Rattle.book.specs.Postings.{stored, closeDone, tradeDone, applicationDone, retirementDone}
-use Rattle.book.specs.Rules.{posted, done}
+use Rattle.book.specs.Rules.{Request, postedTo, done}
 use Rattle.book.specs.Demand3.{isAccepted, history, bookAfter, Reconciled}
 use Rattle.book.specs.Companions.{keepIf, acceptedOnly}
 use Rattle.book.specs.declared.ledger.Book.{Book}
@@ -30,42 +31,44 @@ use Rattle.text.specs.Numeral.{numeral}
 use Rattle.text.specs.Pattern.{filled, hash, choose}
 use Rattle.text.specs.Desk.{lineFeed}
 use Rattle.text.specs.Listing.{lotText, shortageText, gather, lotLine, shortageLine, cellText, makerText, listing}
-use Rattle.shown.specs.Statement.{yearAfter, yearFrom, lotBy, shortageBy, Item, lot, short, above0, collect, lotItem, shortItem, cellItems, items, itemLine, itemLines}
+use Rattle.shown.specs.Statement.{asPosting, yearAfter, yearFrom, lotBy, shortageBy, Item, lot, short, above0, collect, lotItem, shortItem, cellItems, items, itemLine, itemLines}
 
 -- ---- the accounts and the open year see the accepted calls alone
-pub accounts-same : (a : Accounts) (b : Book) (cs : List Call) → feedAll a (history b cs) ≡ feedAll a (map asAccepted (acceptedOnly b cs))
+pub accounts-same :
+    (a : Accounts) (b : Book) (rs : List Request) → feedAll a (history b rs) ≡ feedAll a (map asPosting (acceptedOnly b rs))
 unfolding feedAll history acceptedOnly feed
 accounts-same a b [] = refl
-accounts-same a b (c ∷ cs) = go (isAccepted (posted b c .answer)) (λ x. accounts-same x (posted b c .book) cs)
+accounts-same a b (r ∷ rs) = go (isAccepted (postedTo b r .answer)) (λ x. accounts-same x (postedTo b r .book) rs)
   where
     go :
-        (t : Bool)
-        → ((x : Accounts) → feedAll x (history (posted b c .book) cs) ≡ feedAll x (map asAccepted (acceptedOnly (posted b c .book) cs)))
-        → feedAll (feed a (record { call = c; accepted = t })) (history (posted b c .book) cs)
-        ≡ feedAll a (map asAccepted (keepIf t c (acceptedOnly (posted b c .book) cs)))
-    go true ih = ih (move a c)
+        (e : Bool)
+        → ((x : Accounts) → feedAll x (history (postedTo b r .book) rs) ≡ feedAll x (map asPosting (acceptedOnly (postedTo b r .book) rs)))
+        → feedAll (feed a (record { table = r .table; call = r .call; accepted = e })) (history (postedTo b r .book) rs)
+        ≡ feedAll a (map asPosting (keepIf e r (acceptedOnly (postedTo b r .book) rs)))
+    go true ih = ih (move (r .table) a (r .call))
     go false ih = ih a
 
-year-done : (b : Book) (c : Call) → yearAfter c (b .«open_year») ≡ done b c .book .«open_year»
+year-done : (t : Table) (b : Book) (c : Call) → yearAfter c (b .«open_year») ≡ done t b c .book .«open_year»
 unfolding done stored closeDone tradeDone applicationDone retirementDone
-year-done b (Call.File f) = refl
-year-done b (Call.Close y) = refl
-year-done b (Call.Trade t) = refl
-year-done b (Call.Apply p) = refl
-year-done b (Call.Retire p) = refl
+year-done t b (Call.File f) = refl
+year-done t b (Call.Close y) = refl
+year-done t b (Call.Trade x) = refl
+year-done t b (Call.Apply p) = refl
+year-done t b (Call.Retire p) = refl
 
 year-posted :
-    (b : Book) (c : Call) (rest : List Call)
-    → yearFrom (b .«open_year») (keepIf (isAccepted (posted b c .answer)) c rest) ≡ yearFrom (posted b c .book .«open_year») rest
+    (b : Book) (r : Request) (rest : List Request)
+    → yearFrom (b .«open_year») (keepIf (isAccepted (postedTo b r .answer)) r rest) ≡ yearFrom (postedTo b r .book .«open_year») rest
 unfolding isAccepted yearFrom
-year-posted b c rest =
-    by-verdict b c (λ p. yearFrom (b .«open_year») (keepIf (isAccepted (p .answer)) c rest) ≡ yearFrom (p .book .«open_year») rest)
-    (λ r. refl) (λ s e. rw (lawful b c s e .answered) (ap (λ (y : ℕ). yearFrom y rest) (year-done b c)))
+year-posted b r rest =
+    by-verdict (r .table) b (r .call)
+    (λ p. yearFrom (b .«open_year») (keepIf (isAccepted (p .answer)) r rest) ≡ yearFrom (p .book .«open_year») rest) (λ w. refl)
+    (λ s e. rw (lawful (r .table) b (r .call) s e .answered) (ap (λ (y : ℕ). yearFrom y rest) (year-done (r .table) b (r .call))))
 
-pub year-same : (b : Book) (cs : List Call) → bookAfter b cs .«open_year» ≡ yearFrom (b .«open_year») (acceptedOnly b cs)
+pub year-same : (b : Book) (rs : List Request) → bookAfter b rs .«open_year» ≡ yearFrom (b .«open_year») (acceptedOnly b rs)
 unfolding bookAfter acceptedOnly yearFrom
 year-same b [] = refl
-year-same b (c ∷ cs) = year-same (posted b c .book) cs ∙ sym (year-posted b c (acceptedOnly (posted b c .book) cs))
+year-same b (r ∷ rs) = year-same (postedTo b r .book) rs ∙ sym (year-posted b r (acceptedOnly (postedTo b r .book) rs))
 
 -- ---- one line
 filled-end : (p ns : List ℕ) → filled (p ++ lineFeed ∷ []) ns ≡ filled p ns ++ lineFeed ∷ []

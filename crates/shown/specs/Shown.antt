@@ -1,5 +1,5 @@
--- Claims about every input, any bytes whatever, of the terminal that text/specs/Program defines (the fifth about every
--- two inputs). src/claims.rt holds each to its proof.
+-- Claims about every table, accepted or not, and every input, any bytes whatever, of the terminal that
+-- text/specs/Program defines (the fifth about every two inputs). src/claims.rt holds each to its proof.
 use Prim.Native.Nat.{ℕ, suc, _+_, _<_, _≤_}
 use mathlib.Core.Bool.{true}
 use mathlib.Core.List.{List, [], _∷_, _++_, map}
@@ -7,20 +7,20 @@ use mathlib.Core.Logic.{_↔_}
 use mathlib.Core.Option.{some}
 use mathlib.Core.Path.{_≡_}
 use lib.ListN.{length, take}
+use Rattle.figuring.specs.Tables.{Table}
 use Rattle.book.specs.Ledger.{Key, In}
 use Rattle.book.specs.Soundness.{sound}
 use Rattle.book.specs.Refusals.{refusalIn}
 use Rattle.book.specs.Postings.{freshBook, sellerLot, buyerLot, appliedLot, retiredLot}
-use Rattle.book.specs.Rules.{posted}
+use Rattle.book.specs.Rules.{Request, postedTo}
 use Rattle.book.specs.Companions.{acceptedOnly}
 use Rattle.book.specs.Orders.{Among, Reordered}
-use Rattle.book.specs.FilingOrder.{filings, NoTwoAlike}
+use Rattle.book.specs.FilingOrder.{Lodged, filings, NoTwoAlike}
 use Rattle.book.specs.Accounts.{Accounts, accountsOf}
 use Rattle.book.specs.Accounts.{bought, sold, applied, retired, covered}
 use Rattle.book.specs.Demand3 as D
 use Rattle.book.specs.Demand3.{isAccepted, history, Reconciled, Demand3}
 use Rattle.book.specs.declared.kinds.Call.{Call}
-use Rattle.book.specs.declared.kinds.Filing.{Filing}
 use Rattle.book.specs.declared.answers.Answer.{Answer}
 use Rattle.text.specs.Pattern.{fit}
 use Rattle.text.specs.Line.{mostDigits}
@@ -34,20 +34,20 @@ use Rattle.shown.specs.Statement.{itemPattern, itemFigures, itemLine, st
 use Rattle.shown.specs.Journal.{journalOf, journal}
 
 -- what a call is answered after some calls
-abbrev pub answerAfter : List Call → Call → Answer
-answerAfter before c = posted (D.bookAfter freshBook before) c .answer
+abbrev pub answerAfter : List Request → Request → Answer
+answerAfter before r = postedTo (D.bookAfter freshBook before) r .answer
 
 -- 1, lines are calls: the book is the calls', and the answers are the calls', with refusal 1 where a line is no form.
-pub record ByCalls (input : List ℕ) : Type 0 where
-  pub book : finalBook input ≡ D.bookAfter freshBook (calls input)
-  pub answered : answersTo freshBook (linesOf input) ≡ texts (answers input)
+pub record ByCalls (t : Table) (input : List ℕ) : Type 0 where
+  pub book : finalBook t input ≡ D.bookAfter freshBook (calls t input)
+  pub answered : answersTo t freshBook (linesOf input) ≡ texts (answers t input)
   -- an answer to each line
-  pub each : length (answers input) ≡ length (linesOf input)
+  pub each : length (answers t input) ≡ length (linesOf input)
   -- and to each call the one that the calls before it lead to
   pub inPlace :
-      (before : List Call) (c : Call) (after : List Call) → calls input ≡ before ++ c ∷ after
-      → answersOf freshBook (calls input)
-      ≡ answersOf freshBook before ++ answerAfter before c ∷ answersOf (D.bookAfter freshBook (before ++ c ∷ [])) after
+      (before : List Request) (r : Request) (after : List Request) → calls t input ≡ before ++ r ∷ after
+      → answersOf freshBook (calls t input)
+      ≡ answersOf freshBook before ++ answerAfter before r ∷ answersOf (D.bookAfter freshBook (before ++ r ∷ [])) after
 
 -- every answer of a list has p
 abbrev pub Every : (Answer → Type 0) → List Answer → Type 0
@@ -61,11 +61,12 @@ abbrev pub Accepts : Answer → Type 0
 Accepts a = isAccepted a ≡ true
 
 -- 2, the demands: no answer is refusal 2, and demand 3 holds of the calls, so of the terminal's book.
-pub record Demands (input : List ℕ) : Type 0 where
-  pub neverTwo : Every NotTwo (answers input)
-  pub staysSound : sound (finalBook input) ≡ true
-  pub demand3 : Demand3 (calls input)
-  pub reconciled : (k : Key) → In k → Reconciled (finalBook input) (accountsOf (history freshBook (calls input))) k
+pub record Demands (t : Table) (input : List ℕ) : Type 0 where
+  pub neverTwo : Every NotTwo (answers t input)
+  pub staysSound : sound (finalBook t input) ≡ true
+  pub demand3 : Demand3 (calls t input)
+  pub reconciled :
+      (k : Key) → In k → Reconciled (finalBook t input) (accountsOf (history freshBook (calls t input))) k
 
 -- n Mg are what the accounts leave in a lot of the book, as a sum, so that no difference below zero can hide
 abbrev pub LeftInLot : Accounts → Key → ℕ → Type 0
@@ -101,11 +102,11 @@ Brings a (short k n) (Call.File f) = ⊥
 Brings a (short k n) (Call.Apply p) = ⊥
 Brings a (short k n) (Call.Retire p) = ⊥
 
--- one of some postings has p
-pub record One (p : Call → Type 0) (ps : List Call) : Type 0 where
-  pub posting : Call
+-- the call of one of some postings has p
+pub record One (p : Call → Type 0) (ps : List Request) : Type 0 where
+  pub posting : Request
   pub among : Among posting ps
-  pub has : p posting
+  pub has : p (posting .call)
 
 -- items in rising order from a place on, each once
 abbrev pub Rising : ℕ → List Item → Type 0
@@ -114,7 +115,7 @@ Rising n (x ∷ xs) = (n ≤ rank x) × Rising (suc (rank x)) xs
 
 -- what the statement of postings tells, by their accounts: a line stands in it exactly where they say so, so that each
 -- line shown has its balance, and each balance above 0 is shown; and each line has a posting behind it
-pub record Tells (ps : List Call) : Type 0 where
+pub record Tells (ps : List Request) : Type 0 where
   pub exactly : (x : Item) → Among x (items (accountsBy ps)) ↔ Says (accountsBy ps) x
   pub rises : Rising 0 (items (accountsBy ps))
   -- and no other items do both
@@ -129,38 +130,39 @@ pub record Tells (ps : List Call) : Type 0 where
       → fit mostDigits (itemPattern (yearBy ps) x) (itemLine (yearBy ps) x) ≡ some (itemFigures x)
 
 -- 3, the sentence on the screen: what is shown is the answers, then the statement of the postings, and nothing else.
-pub record OnScreen (input : List ℕ) : Type 0 where
-  pub shows : terminal input ≡ texts (answers input) ++ statement (postings input)
-  pub listed : listing (finalBook input) ≡ statement (postings input)
-  pub tells : Tells (postings input)
+pub record OnScreen (t : Table) (input : List ℕ) : Type 0 where
+  pub shows : terminal t input ≡ texts (answers t input) ++ statement (postings t input)
+  pub listed : listing (finalBook t input) ≡ statement (postings t input)
+  pub tells : Tells (postings t input)
   -- the Mg of an answer, by the accounts of the postings up to its own
   pub left :
-      (before : List Call) (c : Call) (after : List Call) (n : ℕ) → calls input ≡ before ++ c ∷ after
-      → answerAfter before c ≡ Answer.Left (record { 0 = n })
-      → Leaves (accountsBy (acceptedOnly freshBook (before ++ c ∷ []))) c n
+      (before : List Request) (r : Request) (after : List Request) (n : ℕ) → calls t input ≡ before ++ r ∷ after
+      → answerAfter before r ≡ Answer.Left (record { 0 = n })
+      → Leaves (accountsBy (acceptedOnly freshBook (before ++ r ∷ []))) (r .call) n
 
--- 4, the journal: put to a fresh terminal it gives the book again, and so the listing, with no line refused.
-pub record JournalKept (input : List ℕ) : Type 0 where
-  pub calls-are : calls (journal input) ≡ postings input
-  pub book : finalBook (journal input) ≡ finalBook input
-  pub list : listing (finalBook (journal input)) ≡ listing (finalBook input)
-  pub accepted : Every Accepts (answers (journal input))
-  pub again : journal (journal input) ≡ journal input
+-- 4, the journal: put to a fresh terminal with the same table it gives the book again, and so the listing, with no line
+-- refused.
+pub record JournalKept (t : Table) (input : List ℕ) : Type 0 where
+  pub calls-are : calls t (journal t input) ≡ postings t input
+  pub book : finalBook t (journal t input) ≡ finalBook t input
+  pub list : listing (finalBook t (journal t input)) ≡ listing (finalBook t input)
+  pub accepted : Every Accepts (answers t (journal t input))
+  pub again : journal t (journal t input) ≡ journal t input
   -- cut anywhere, between lines or within one: its calls are the first so many postings, so the book is theirs
-  pub torn : (p q : List ℕ) → journal input ≡ p ++ q → (n : ℕ) × (calls p ≡ take n (postings input))
+  pub torn : (p q : List ℕ) → journal t input ≡ p ++ q → (n : ℕ) × (calls t p ≡ take n (postings t input))
   pub torn-book :
-      (p q : List ℕ) → journal input ≡ p ++ q
-      → (n : ℕ) × (finalBook p ≡ D.bookAfter freshBook (take n (postings input)))
+      (p q : List ℕ) → journal t input ≡ p ++ q
+      → (n : ℕ) × (finalBook t p ≡ D.bookAfter freshBook (take n (postings t input)))
   -- cut after a line feed: besides, every line is accepted
   pub cut :
-      (p q : List ℕ) → journal input ≡ p ++ lineFeed ∷ q
-      → (n : ℕ) × (p ++ lineFeed ∷ [] ≡ journalOf (take n (postings input)))
-      × Every Accepts (answers (p ++ lineFeed ∷ []))
+      (p q : List ℕ) → journal t input ≡ p ++ lineFeed ∷ q
+      → (n : ℕ) × (p ++ lineFeed ∷ [] ≡ journalOf (take n (postings t input)))
+      × Every Accepts (answers t (p ++ lineFeed ∷ []))
 
--- 5, filing order: where the calls of two inputs differ only in the order of some filings, no two of which name the
--- same maker, set and number, the books are equal, and with them what is listed.
-abbrev pub FiledInAnyOrder : List ℕ → List ℕ → Type 0
-FiledInAnyOrder input other =
-    (before after : List Call) (fs gs : List Filing)
-    → calls input ≡ before ++ filings fs ++ after → calls other ≡ before ++ filings gs ++ after
-    → Reordered fs gs → NoTwoAlike fs → finalBook input ≡ finalBook other
+-- 5, filing order: where the calls of two inputs, with one table, differ only in the order of some filings, no two of
+-- which name the same maker, set and number, the books are equal, and with them what is listed.
+abbrev pub FiledInAnyOrder : Table → List ℕ → List ℕ → Type 0
+FiledInAnyOrder t input other =
+    (before after : List Request) (fs gs : List Lodged)
+    → calls t input ≡ before ++ filings fs ++ after → calls t other ≡ before ++ filings gs ++ after
+    → Reordered fs gs → NoTwoAlike fs → finalBook t input ≡ finalBook t other

@@ -1,4 +1,5 @@
--- The statement that postings come to: a function of the accepted calls, by their accounts, and of no book.
+-- The statement that postings come to: a function of the accepted calls, each with the table that it was handed, by their
+-- accounts, and of no book.
 use Prim.Native.Nat.{ℕ, zero, suc, _+_, _-_, _*_}
 use mathlib.Core.Bool.{cond}
 use mathlib.Core.List.{List, [], _∷_, _++_, map}
@@ -6,16 +7,21 @@ use Rattle.figuring.specs.Years.{firstYear}
 use Rattle.book.specs.Sizes.{makers, sets, years}
 use Rattle.book.specs.Ledger.{Key, key, cell}
 use Rattle.figuring.specs.Life.{live, openShort}
-use Rattle.book.specs.Accounts.{Accounts, asAccepted, accountsOf}
+use Rattle.book.specs.Rules.{Request}
+use Rattle.book.specs.Accounts.{Accounts, Entry, asAccepted, accountsOf}
 use Rattle.book.specs.Accounts.{bought, sold, applied, retired, covered}
 use Rattle.book.specs.declared.kinds.Call.{Call}
 use Rattle.text.specs.Ascii.{ascii}
 use Rattle.text.specs.Pattern.{filled}
 use Rattle.text.specs.Desk.{lineFeed}
 
--- the accounts of postings, each entered as accepted
-unfoldable pub accountsBy : List Call → Accounts
-accountsBy ps = accountsOf (map asAccepted ps)
+-- a posting, entered as accepted
+abbrev pub asPosting : Request → Entry
+asPosting r = asAccepted (r .table) (r .call)
+
+-- the accounts of postings
+unfoldable pub accountsBy : List Request → Accounts
+accountsBy ps = accountsOf (map asPosting ps)
 
 -- the open year that postings come to: one more for each close
 abbrev pub yearAfter : Call → ℕ → ℕ
@@ -25,11 +31,11 @@ yearAfter (Call.Trade t) Y = Y
 yearAfter (Call.Apply p) Y = Y
 yearAfter (Call.Retire p) Y = Y
 
-unfoldable pub yearFrom : ℕ → List Call → ℕ
+unfoldable pub yearFrom : ℕ → List Request → ℕ
 yearFrom Y [] = Y
-yearFrom Y (c ∷ cs) = yearFrom (yearAfter c Y) cs
+yearFrom Y (r ∷ rs) = yearFrom (yearAfter (r .call) Y) rs
 
-abbrev pub yearBy : List Call → ℕ
+abbrev pub yearBy : List Request → ℕ
 yearBy ps = yearFrom firstYear ps
 
 -- what a lot and a shortage come to by the accounts. No difference here stops at zero: `Tells .exactly` of Shown
@@ -92,5 +98,5 @@ itemLines Y [] = []
 itemLines Y (x ∷ xs) = itemLine Y x ++ lineFeed ∷ itemLines Y xs
 
 -- what postings come to, printed
-abbrev pub statement : List Call → List ℕ
+abbrev pub statement : List Request → List ℕ
 statement ps = itemLines (yearBy ps) (items (accountsBy ps))

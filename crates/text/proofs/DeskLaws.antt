@@ -9,6 +9,7 @@ use lib.Dec.{ltb}
 use lib.ListN.{length, take}
 use lib.Seq.{take-all, length-take-le}
 use borrow.Author.Tests.{lt-ltb}
+use Rattle.figuring.specs.Tables.{Table}
 use Rattle.text.specs.declared.answering.Step.{Step}
 use Rattle.text.specs.declared.desk.Desk.{Desk}
 use Rattle.text.specs.declared.desk.Reply.{Reply}
@@ -31,18 +32,18 @@ held-min held len n h e = go (decLe len mostHeld)
 
 -- ---- with room and without
 pub replied :
-    {d : Desk} {t : Terminal} {out : List ℕ} {r : Reply} {out′ : List ℕ}
-    → r .fits ≡ true → r .desk .len ≡ length (t .held) → Serves t out r out′ → RepliedBy true d t out r out′
+    {d : Desk} {x : Terminal} {out : List ℕ} {r : Reply} {out′ : List ℕ}
+    → r .fits ≡ true → r .desk .len ≡ length (x .held) → Serves x out r out′ → RepliedBy true d x out r out′
 replied f l s = record { fits-is = f; serves = s; kept = λ e. absurd (true≢false e); len-is = λ _. l }
 
 pub with-room :
-    {room : Bool} {d : Desk} {t : Terminal} {out : List ℕ} {r : Reply} {out′ : List ℕ}
-    → room ≡ true → RepliedBy true d t out r out′ → RepliedBy room d t out r out′
-with-room {room} {d} {t} {out} {r} {out′} e f = subst (λ (b : Bool). RepliedBy b d t out r out′) (sym e) f
+    {room : Bool} {d : Desk} {x : Terminal} {out : List ℕ} {r : Reply} {out′ : List ℕ}
+    → room ≡ true → RepliedBy true d x out r out′ → RepliedBy room d x out r out′
+with-room {room} {d} {x} {out} {r} {out′} e f = subst (λ (b : Bool). RepliedBy b d x out r out′) (sym e) f
 
 pub without-room :
-    {room : Bool} {d : Desk} {t : Terminal} {out : List ℕ}
-    → room ≡ false → RepliedBy room d t out (record { fits = false; desk = d; at = 0 }) out
+    {room : Bool} {d : Desk} {x : Terminal} {out : List ℕ}
+    → room ≡ false → RepliedBy room d x out (record { fits = false; desk = d; at = 0 }) out
 without-room e =
     record {
       fits-is = sym e;
@@ -62,26 +63,26 @@ without-room e =
 
 -- for a caller whose buffer has the room
 pub served :
-    {room : Bool} {d : Desk} {t : Terminal} {out : List ℕ} {r : Reply} {out′ : List ℕ}
-    → room ≡ true → RepliedBy room d t out r out′ → Serves t out r out′
+    {room : Bool} {d : Desk} {x : Terminal} {out : List ℕ} {r : Reply} {out′ : List ℕ}
+    → room ≡ true → RepliedBy room d x out r out′ → Serves x out r out′
 served e f = rw e at (f .serves)
 
 -- ---- a chunk
 pub took :
-    (d : Desk) (n : ℕ) (chunk out : List ℕ) (first : Turn) (r : Served) (out′ : List ℕ)
+    (t : Table) (d : Desk) (n : ℕ) (chunk out : List ℕ) (first : Turn) (r : Served) (out′ : List ℕ)
     → length (d .held) ≡ mostHeld → n ≡ min (d .len) mostHeld → NextLine (d .held) n chunk 0 0 first
-    → ServedBy (goesOn (d .book) [] chunk first) out r out′
-    → RepliedBy true d (takesAll (atDesk d) chunk) out
+    → ServedBy (goesOn t (d .book) [] chunk first) out r out′
+    → RepliedBy true d (takesAll t (atDesk d) chunk) out
     (record {
       fits = true;
       desk = record { book = r .book; held = r .turn .held; len = r .turn .len };
       at = r .turn .put;
     }) out′
-took d n chunk out first r out′ h m f s =
-    let e : takesAll (atDesk d) chunk ≡ goesOn (d .book) [] chunk first =
-    rw (← (held-min (d .held) (d .len) n h m)) (f .goes (d .book) []) in
+took t d n chunk out first r out′ h m f s =
+    let e : takesAll t (atDesk d) chunk ≡ goesOn t (d .book) [] chunk first =
+    rw (← (held-min (d .held) (d .len) n h m)) (f .goes t (d .book) []) in
     subst
-    (λ (t : Terminal). RepliedBy true d t out
+    (λ (x : Terminal). RepliedBy true d x out
     (record {
       fits = true;
       desk = record { book = r .book; held = r .turn .held; len = r .turn .len };
@@ -97,9 +98,9 @@ took d n chunk out first r out′ h m f s =
     }))
 
 -- ---- the end of the input
-module _ (d : Desk) (n : ℕ) (h : length (d .held) ≡ mostHeld) (m : n ≡ min (d .len) mostHeld) where
+module _ (t : Table) (d : Desk) (n : ℕ) (h : length (d .held) ≡ mostHeld) (m : n ≡ min (d .len) mostHeld) where
   pub no-last :
-      (out : List ℕ) → n ≡ 0 → RepliedBy true d (ends (atDesk d)) out
+      (out : List ℕ) → n ≡ 0 → RepliedBy true d (ends t (atDesk d)) out
       (record { fits = true; desk = record { book = d .book; held = d .held; len = n }; at = 0 }) out
   no-last out e =
       let z : d .len ≡ 0 = omega arith in
@@ -117,8 +118,8 @@ module _ (d : Desk) (n : ℕ) (h : length (d .held) ≡ mostHeld) (m : n ≡ min
 
   pub a-last :
       (out out′ : List ℕ) (r : Step) → (n ≡ 0 → ⊥) → answerRoom ≤ length out
-      → Answered (d .book) (take n (d .held)) out 0 r out′
-      → RepliedBy true d (ends (atDesk d)) out
+      → Answered t (d .book) (take n (d .held)) out 0 r out′
+      → RepliedBy true d (ends t (atDesk d)) out
       (record { fits = true; desk = record { book = r .book; held = d .held; len = 0 }; at = r .at }) out′
   a-last out out′ r z room a =
       let e : take n (d .held) ≡ take (d .len) (d .held) = held-min (d .held) (d .len) n h m in
@@ -129,7 +130,7 @@ module _ (d : Desk) (n : ℕ) (h : length (d .held) ≡ mostHeld) (m : n ≡ min
         arith,
         same-long (a .stands),
         a .stands .end-is,
-        text-length (answerTo (d .book) (take n (d .held)) .answer),
+        text-length (answerTo t (d .book) (take n (d .held)) .answer),
       ) in
       rw (← e, k) (replied refl refl (record {
         book-is = a .book-is;

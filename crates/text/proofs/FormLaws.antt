@@ -25,11 +25,11 @@ tail-same : {A : Type 0} {x y : A} {xs ys : List A} → x ∷ xs ≡ y ∷ ys �
 tail-same e = cc
 
 -- a list of k numbers, written out
-abbrev firsts : ℕ → List ℕ → List ℕ
+abbrev pub firsts : ℕ → List ℕ → List ℕ
 firsts zero ns = []
 firsts (suc k) ns = getD ns 0 0 ∷ firsts k (drop 1 ns)
 
-listed : (k : ℕ) (ns : List ℕ) → length ns ≡ k → firsts k ns ≡ ns
+pub listed : (k : ℕ) (ns : List ℕ) → length ns ≡ k → firsts k ns ≡ ns
 listed zero [] h = refl
 listed zero (n ∷ ns) h = absurd (omega arith)
 listed (suc k) [] h = absurd (omega arith)
@@ -172,6 +172,6 @@ pub by-text : ByText
 unfolding answerTo
 by-text =
     record {
-      form = λ b s c t. ap (postedLine b) (each s c t);
-      no-form = λ b s n. ap (postedLine b) (reads .else-none s n);
+      form = λ t b s c h. ap (postedLine t b) (each s c h);
+      no-form = λ t b s n. ap (postedLine t b) (reads .else-none s n);
     }

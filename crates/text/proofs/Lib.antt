@@ -14,6 +14,11 @@ pub mod ServeLaws
 pub mod SessionLaws
 pub mod ListingLaws
 pub mod WholeLaws
+pub mod FirstLineLaws
+pub mod RowLaws
+pub mod TableRowsLaws
+pub mod TableTextLaws
+pub mod LoadLaws
 pub mod ReaderWalk
 pub mod LentSlice
 pub mod ExampleLaws

@@ -10,6 +10,7 @@ use lib.Dec.{ltb}
 use lib.ListN.{length, getD, take, drop, set, length-set, drop-of-length-le}
 use lib.Seq.{drop-cons, take-suc-set, length-take-le}
 use borrow.Author.Tests.{eq-eqb, ne-eqb, lt-ltb, le-ltb}
+use Rattle.figuring.specs.Tables.{Table}
 use Rattle.book.specs.declared.ledger.Book.{Book}
 use Rattle.book.specs.declared.answers.Answer.{Answer}
 use Rattle.text.specs.declared.serving.Turn.{Turn}
@@ -31,14 +32,14 @@ pub record Reading (before : List ℕ) (count : ℕ) (chunk : List ℕ) (start :
   pub len-fits : len ≤ mostHeld
   pub held-long : length held ≡ mostHeld
   pub goes :
-      (b : Book) (said : List ℕ) → takesAll (holdingFirst b before count said) (drop start chunk)
-      ≡ takesAll (holdingFirst b held len said) (drop taken chunk)
+      (t : Table) (b : Book) (said : List ℕ) → takesAll t (holdingFirst b before count said) (drop start chunk)
+      ≡ takesAll t (holdingFirst b held len said) (drop taken chunk)
 
 pub reads :
     (before : List ℕ) (count : ℕ) (chunk : List ℕ) (start : ℕ) → count ≤ length before
     → length before ≡ mostHeld → start ≤ length chunk → Reading before count chunk start before count start
 reads before count chunk start h e k =
-    record { in-chunk = k; onward = omega arith; len-fits = omega arith; held-long = e; goes = λ b said. refl }
+    record { in-chunk = k; onward = omega arith; len-fits = omega arith; held-long = e; goes = λ t b said. refl }
 
 module _ {before : List ℕ} {count : ℕ} {chunk : List ℕ} {start : ℕ} {held : List ℕ} {len taken : ℕ}
     (f : Reading before count chunk start held len taken) where
@@ -49,11 +50,11 @@ module _ {before : List ℕ} {count : ℕ} {chunk : List ℕ} {start : ℕ} {hel
   held-count = length-take-le len held held-in
 
   module _ (here : taken < length chunk) where
-    byte : (b : Book) (said : List ℕ)
-        → takesAll (holdingFirst b before count said) (drop start chunk)
-        ≡ takesAll (takes (holdingFirst b held len said) (getD chunk taken 0)) (drop (suc taken) chunk)
+    byte : (t : Table) (b : Book) (said : List ℕ)
+        → takesAll t (holdingFirst b before count said) (drop start chunk)
+        ≡ takesAll t (takes t (holdingFirst b held len said) (getD chunk taken 0)) (drop (suc taken) chunk)
     unfolding takesAll
-    byte b said = f .goes b said ∙ rw (drop-cons chunk taken 0 here)
+    byte t b said = f .goes t b said ∙ rw (drop-cons chunk taken 0 here)
 
     pub line-ends : (line : Line) (put : ℕ) → getD chunk taken 0 ≡ lineFeed → line ≡ lineOf (take len held)
         → NextLine before count chunk start put
@@ -63,7 +64,7 @@ module _ {before : List ℕ} {count : ℕ} {chunk : List ℕ} {start : ℕ} {hel
         record {
           within = record { len-fits = omega arith; onward = λ _. omega (arith, f .onward); in-chunk = omega arith };
           put-is = refl;
-          goes = λ b said. byte b said ∙ rw (eq-eqb (getD chunk taken 0) lineFeed e, l, add-one taken);
+          goes = λ t b said. byte t b said ∙ rw (eq-eqb (getD chunk taken 0) lineFeed e, l, add-one taken);
         }
 
     module _ (other : getD chunk taken 0 ≡ lineFeed → ⊥) where
@@ -78,7 +79,7 @@ module _ {before : List ℕ} {count : ℕ} {chunk : List ℕ} {start : ℕ} {hel
             len-fits = omega arith;
             held-long = length-set held len (getD chunk taken 0) ∙ f .held-long;
             goes =
-                λ b said. byte b said
+                λ t b said. byte t b said
                 ∙ rw (
                   ne-eqb (getD chunk taken 0) lineFeed other,
                   k,
@@ -97,7 +98,7 @@ module _ {before : List ℕ} {count : ℕ} {chunk : List ℕ} {start : ℕ} {hel
             onward = omega (arith, f .onward);
             len-fits = f .len-fits;
             held-long = f .held-long;
-            goes = λ b said. byte b said ∙ rw (ne-eqb (getD chunk taken 0) lineFeed other, k, add-one taken);
+            goes = λ t b said. byte t b said ∙ rw (ne-eqb (getD chunk taken 0) lineFeed other, k, add-one taken);
           }
 
   pub chunk-ends :
@@ -108,23 +109,25 @@ module _ {before : List ℕ} {count : ℕ} {chunk : List ℕ} {start : ℕ} {hel
       record {
         within = record { len-fits = held-in; onward = λ e. absurd (true≢false (sym e)); in-chunk = f .in-chunk };
         put-is = refl;
-        goes = λ b said. f .goes b said ∙ rw (drop-of-length-le chunk h);
+        goes = λ t b said. f .goes t b said ∙ rw (drop-of-length-le chunk h);
       }
 
 -- ---- a chunk served line by line
--- begun at `first` with b₀ and out₀, the loop has come to this book, this turn and this buffer
-pub record Midway (b₀ : Book) (first : Turn) (chunk out₀ : List ℕ) (b : Book) (t : Turn) (out : List ℕ) : Type 0 where
-  pub len-fits : t .len ≤ length (t .held)
-  pub in-chunk : t .taken ≤ length chunk
-  pub counted : t .ended ≡ true → t .put + answerRoom ≤ answerRoom * t .taken
+-- with the table t, and begun at `first` with b₀ and out₀, the loop has come to this book, this turn and this buffer
+pub record Midway (t : Table) (b₀ : Book) (first : Turn) (chunk out₀ : List ℕ) (b : Book) (u : Turn)
+    (out : List ℕ) : Type 0 where
+  pub len-fits : u .len ≤ length (u .held)
+  pub in-chunk : u .taken ≤ length chunk
+  pub counted : u .ended ≡ true → u .put + answerRoom ≤ answerRoom * u .taken
   pub room : answerRoom * length chunk ≤ length out₀
-  pub put-in : t .put ≤ length out₀
+  pub put-in : u .put ≤ length out₀
   pub said : List ℕ
-  pub stands : Stands said 0 out₀ (t .put) out
-  pub goes : goesOn b₀ [] chunk first ≡ goesOn b said chunk t
+  pub stands : Stands said 0 out₀ (u .put) out
+  pub goes : goesOn t b₀ [] chunk first ≡ goesOn t b said chunk u
 
-pub starts : (b : Book) (t : Turn) (chunk out : List ℕ) → Ready t chunk out → Midway b t chunk out b t out
-starts b t chunk out r =
+pub starts :
+    (t : Table) (b : Book) (u : Turn) (chunk out : List ℕ) → Ready u chunk out → Midway t b u chunk out b u out
+starts t b u chunk out r =
     record {
       len-fits = r .within .len-fits;
       in-chunk = r .within .in-chunk;
@@ -141,16 +144,16 @@ abbrev pub weight : Bool → ℕ → ℕ
 weight true n = suc n
 weight false n = zero
 
-module _ {b₀ : Book} {first : Turn} {chunk out₀ : List ℕ} {b : Book} {t : Turn} {out : List ℕ}
-    (s : Midway b₀ first chunk out₀ b t out) where
-  module _ (ended : t .ended ≡ true) where
+module _ {t : Table} {b₀ : Book} {first : Turn} {chunk out₀ : List ℕ} {b : Book} {u : Turn} {out : List ℕ}
+    (s : Midway t b₀ first chunk out₀ b u out) where
+  module _ (ended : u .ended ≡ true) where
     -- what `after` asks
-    pub asked : (t .len ≤ length (t .held)) × ((t .taken ≤ length chunk) × (t .put + answerRoom ≤ length out))
+    pub asked : (u .len ≤ length (u .held)) × ((u .taken ≤ length chunk) × (u .put + answerRoom ≤ length out))
     asked = (s .len-fits, (s .in-chunk, omega (arith, s .counted ended, s .room, s .in-chunk, same-long (s .stands))))
 
-    module _ {a : Answer} {z : Book} {r : Turn} {out′ : List ℕ} (answered : a ≡ postedLine b (t .line) .answer)
-        (left : z ≡ postedLine b (t .line) .book) (f : After t a chunk out r out′) where
-      pub next : Midway b₀ first chunk out₀ z r out′
+    module _ {a : Answer} {z : Book} {r : Turn} {out′ : List ℕ} (answered : a ≡ postedLine t b (u .line) .answer)
+        (left : z ≡ postedLine t b (u .line) .book) (f : After u a chunk out r out′) where
+      pub next : Midway t b₀ first chunk out₀ z r out′
       next =
           record {
             len-fits = f .next .within .len-fits;
@@ -160,27 +163,27 @@ module _ {b₀ : Book} {first : Turn} {chunk out₀ : List ℕ} {b : Book} {t : 
             put-in = omega (arith, f .stands .end-is, text-length a, asked .1 .1, same-long (s .stands));
             said = s .said ++ textOf a;
             stands = after-text (s .stands) (f .stands);
-            goes = s .goes ∙ rw (ended, ← answered, ← left) (f .next .goes z (s .said ++ textOf a));
+            goes = s .goes ∙ rw (ended, ← answered, ← left) (f .next .goes t z (s .said ++ textOf a));
           }
 
-      pub nearer : weight (r .ended) (length chunk - r .taken) < weight (t .ended) (length chunk - t .taken)
+      pub nearer : weight (r .ended) (length chunk - r .taken) < weight (u .ended) (length chunk - u .taken)
       nearer = rw ended (less (r .ended) (f .next .within .onward))
         where
           less :
-              (e : Bool) → (e ≡ true → t .taken < r .taken)
-              → weight e (length chunk - r .taken) < suc (length chunk - t .taken)
+              (e : Bool) → (e ≡ true → u .taken < r .taken)
+              → weight e (length chunk - r .taken) < suc (length chunk - u .taken)
           less true k = omega (arith, k refl, f .next .within .in-chunk)
           less false k = omega arith
 
   -- where no line has ended, the chunk is served
-  pub all-served : t .ended ≡ false → ServedBy (goesOn b₀ [] chunk first) out₀ (record { book = b; turn = t }) out
+  pub all-served : u .ended ≡ false → ServedBy (goesOn t b₀ [] chunk first) out₀ (record { book = b; turn = u }) out
   all-served over =
-      let e : goesOn b₀ [] chunk first ≡ holdingFirst b (t .held) (t .len) (s .said) = s .goes ∙ rw over in
-      subst (λ (u : Terminal). ServedBy u out₀ (record { book = b; turn = t }) out) (sym e)
+      let e : goesOn t b₀ [] chunk first ≡ holdingFirst b (u .held) (u .len) (s .said) = s .goes ∙ rw over in
+      subst (λ (x : Terminal). ServedBy x out₀ (record { book = b; turn = u }) out) (sym e)
       (record {
         book-is = refl;
         held-is = refl;
-        len-is = sym (length-take-le (t .len) (t .held) (s .len-fits));
+        len-is = sym (length-take-le (u .len) (u .held) (s .len-fits));
         stands = s .stands;
         put-in = omega (arith, s .put-in, same-long (s .stands));
       })

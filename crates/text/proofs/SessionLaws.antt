@@ -9,6 +9,7 @@ use lib.Dec.{eqb, ltb}
 use lib.ListN.{length, take, length-append}
 use lib.Seq.{take-all, take-append-le, length-take-le}
 use borrow.Author.Tests.{lt-ltb, ne-eqb}
+use Rattle.figuring.specs.Tables.{Table}
 use Rattle.book.specs.Postings.{freshBook}
 use Rattle.book.specs.declared.ledger.Book.{Book}
 use Rattle.text.specs.Line.{lineAt, lineOf, longestLine}
@@ -18,10 +19,11 @@ use Rattle.text.specs.Lines.{linesFrom, lastLine, OneLine, Lines, answer
 use Rattle.text.specs.Listing.{listing}
 use Rattle.text.specs.Program.{terminal, opened, written, inChunks, joined, AnyChunks}
 
-pub takes-append : (t : Terminal) (a b : List ℕ) → takesAll t (a ++ b) ≡ takesAll (takesAll t a) b
+pub takes-append :
+    (t : Table) (x : Terminal) (a b : List ℕ) → takesAll t x (a ++ b) ≡ takesAll t (takesAll t x a) b
 unfolding takesAll
-takes-append t [] b = refl
-takes-append t (x ∷ a) b = takes-append (takes t x) a b
+takes-append t x [] b = refl
+takes-append t x (c ∷ a) b = takes-append t (takes t x c) a b
 
 -- ---- what is held of a line gets the line's answer
 abbrev cut : List ℕ → List ℕ
@@ -37,9 +39,9 @@ cut-line l = go (decLe (length l) mostHeld)
         let m : length (cut l) ≡ mostHeld = length-take-le mostHeld l (omega arith) in
         rw (lt-ltb longestLine (length l) (omega arith), lt-ltb longestLine (length (cut l)) (omega arith))
 
-cut-answer : (b : Book) (l : List ℕ) → answerTo b (cut l) ≡ answerTo b l
+cut-answer : (t : Table) (b : Book) (l : List ℕ) → answerTo t b (cut l) ≡ answerTo t b l
 unfolding answerTo
-cut-answer b l = rw (cut-line l)
+cut-answer t b l = rw (cut-line l)
 
 cut-more : (l : List ℕ) (b : ℕ) → cond (ltb (length (cut l)) mostHeld) (cut l ++ (b ∷ [])) (cut l) ≡ cut (l ++ (b ∷ []))
 cut-more l b = go (decLe (length l) longestLine)
@@ -56,42 +58,43 @@ cut-more l b = go (decLe (length l) longestLine)
         rw (m, take-append-le mostHeld l (b ∷ []) (omega arith))
 
 -- ---- a whole input
--- a terminal that had said `said` has answered some lines, from the book b
-pub record Came (t : Terminal) (b : Book) (said : List ℕ) (ls : List (List ℕ)) : Type 0 where
-  pub book-is : t .book ≡ bookAfterLines b ls
-  pub said-is : t .said ≡ said ++ answersTo b ls
+-- a terminal that had said `said` has answered some lines, with the table t and from the book b
+pub record Came (x : Terminal) (t : Table) (b : Book) (said : List ℕ) (ls : List (List ℕ)) : Type 0 where
+  pub book-is : x .book ≡ bookAfterLines t b ls
+  pub said-is : x .said ≡ said ++ answersTo t b ls
 
 comes :
-    (b : Book) (said l s : List ℕ) → Came (ends (takesAll (record { book = b; held = cut l; said = said }) s)) b said
-    (linesFrom l s)
+    (t : Table) (b : Book) (said l s : List ℕ)
+    → Came (ends t (takesAll t (record { book = b; held = cut l; said = said }) s)) t b said (linesFrom l s)
 unfolding takesAll linesFrom answersTo bookAfterLines
-comes b said [] [] = record { book-is = refl; said-is = sym (append-nil said) }
-comes b said (x ∷ l) [] =
-    rw (lt-ltb 0 (length (cut (x ∷ l))) (omega arith), cut-answer b (x ∷ l)) (record {
+comes t b said [] [] = record { book-is = refl; said-is = sym (append-nil said) }
+comes t b said (c ∷ l) [] =
+    rw (lt-ltb 0 (length (cut (c ∷ l))) (omega arith), cut-answer t b (c ∷ l)) (record {
       book-is = refl;
-      said-is = rw (append-nil (textOf (answerTo b (x ∷ l) .answer)));
+      said-is = rw (append-nil (textOf (answerTo t b (c ∷ l) .answer)));
     })
-comes b said l (x ∷ s) =
-    go (eqb x lineFeed) (comes (answerTo b l .book) (said ++ textOf (answerTo b l .answer)) [] s)
-    (comes b said (l ++ (x ∷ [])) s)
+comes t b said l (c ∷ s) =
+    go (eqb c lineFeed) (comes t (answerTo t b l .book) (said ++ textOf (answerTo t b l .answer)) [] s)
+    (comes t b said (l ++ (c ∷ [])) s)
   where
-    t : Terminal
-    t = record { book = b; held = cut l; said = said }
+    x : Terminal
+    x = record { book = b; held = cut l; said = said }
 
     go :
         (e : Bool)
         → Came
-        (ends
-        (takesAll (record { book = answerTo b l .book; held = []; said = said ++ textOf (answerTo b l .answer) }) s))
-        (answerTo b l .book) (said ++ textOf (answerTo b l .answer)) (linesFrom [] s)
-        → Came (ends (takesAll (record { book = b; held = cut (l ++ (x ∷ [])); said = said }) s)) b said
-        (linesFrom (l ++ (x ∷ [])) s)
-        → Came (ends (takesAll (cond e (answering t) (holding t x)) s)) b said
-        (cond e (l ∷ linesFrom [] s) (linesFrom (l ++ (x ∷ [])) s))
+        (ends t
+        (takesAll t
+        (record { book = answerTo t b l .book; held = []; said = said ++ textOf (answerTo t b l .answer) }) s))
+        t (answerTo t b l .book) (said ++ textOf (answerTo t b l .answer)) (linesFrom [] s)
+        → Came (ends t (takesAll t (record { book = b; held = cut (l ++ (c ∷ [])); said = said }) s)) t b said
+        (linesFrom (l ++ (c ∷ [])) s)
+        → Came (ends t (takesAll t (cond e (answering t x) (holding x c)) s)) t b said
+        (cond e (l ∷ linesFrom [] s) (linesFrom (l ++ (c ∷ [])) s))
     go true p q =
-        rw (cut-answer b l)
-        (record { book-is = p .book-is; said-is = p .said-is ∙ append-assoc said (textOf (answerTo b l .answer)) _ })
-    go false p q = rw (cut-more l x) q
+        rw (cut-answer t b l)
+        (record { book-is = p .book-is; said-is = p .said-is ∙ append-assoc said (textOf (answerTo t b l .answer)) _ })
+    go false p q = rw (cut-more l c) q
 
 -- ---- what a line is
 ended-from : (k l s : List ℕ) → OneLine l → linesFrom k (l ++ lineFeed ∷ s) ≡ (k ++ l) ∷ linesFrom [] s
@@ -113,51 +116,56 @@ lines = record { ended = λ l s h. ended-from [] l s h; last = λ l h. last-from
 -- ---- the chunks
 -- a terminal that had said something before
 abbrev saying : List ℕ → Terminal → Terminal
-saying a t = record { book = t .book; held = t .held; said = a ++ t .said }
+saying a x = record { book = x .book; held = x .held; said = a ++ x .said }
 
-saying-takes : (a : List ℕ) (t : Terminal) (x : ℕ) → takes (saying a t) x ≡ saying a (takes t x)
-saying-takes a t x = go (eqb x lineFeed)
-  where
-    go :
-        (e : Bool) → cond e (answering (saying a t)) (holding (saying a t) x)
-        ≡ saying a (cond e (answering t) (holding t x))
-    go true = rw (append-assoc a (t .said) (textOf (answerTo (t .book) (t .held) .answer)))
-    go false = refl
+module _ (t : Table) where
+  saying-takes : (a : List ℕ) (x : Terminal) (c : ℕ) → takes t (saying a x) c ≡ saying a (takes t x c)
+  saying-takes a x c = go (eqb c lineFeed)
+    where
+      go :
+          (e : Bool) → cond e (answering t (saying a x)) (holding (saying a x) c)
+          ≡ saying a (cond e (answering t x) (holding x c))
+      go true = rw (append-assoc a (x .said) (textOf (answerTo t (x .book) (x .held) .answer)))
+      go false = refl
 
-saying-all : (a : List ℕ) (t : Terminal) (s : List ℕ) → takesAll (saying a t) s ≡ saying a (takesAll t s)
-unfolding takesAll
-saying-all a t [] = refl
-saying-all a t (x ∷ s) = ap (λ (u : Terminal). takesAll u s) (saying-takes a t x) ∙ saying-all a (takes t x) s
+  saying-all : (a : List ℕ) (x : Terminal) (s : List ℕ) → takesAll t (saying a x) s ≡ saying a (takesAll t x s)
+  unfolding takesAll
+  saying-all a x [] = refl
+  saying-all a x (c ∷ s) = ap (λ (y : Terminal). takesAll t y s) (saying-takes a x c) ∙ saying-all a (takes t x c) s
 
-saying-ends : (a : List ℕ) (t : Terminal) → ends (saying a t) ≡ saying a (ends t)
-saying-ends a t = go (ltb 0 (length (t .held)))
-  where
-    go : (e : Bool) → terminalIf e (answering (saying a t)) (saying a t) ≡ saying a (terminalIf e (answering t) t)
-    go true = rw (append-assoc a (t .said) (textOf (answerTo (t .book) (t .held) .answer)))
-    go false = refl
+  saying-ends : (a : List ℕ) (x : Terminal) → ends t (saying a x) ≡ saying a (ends t x)
+  saying-ends a x = go (ltb 0 (length (x .held)))
+    where
+      go :
+          (e : Bool) → terminalIf e (answering t (saying a x)) (saying a x)
+          ≡ saying a (terminalIf e (answering t x) x)
+      go true = rw (append-assoc a (x .said) (textOf (answerTo t (x .book) (x .held) .answer)))
+      go false = refl
 
--- what is said, and then listed, at the end
-abbrev closing : Terminal → List ℕ
-closing t = ends t .said ++ listing (ends t .book)
+  -- what is said, and then listed, at the end
+  abbrev closing : Terminal → List ℕ
+  closing x = ends t x .said ++ listing (ends t x .book)
 
-closing-said : (t : Terminal) (s : List ℕ) → closing (takesAll t s) ≡ t .said ++ closing (takesAll (written t) s)
-closing-said t s =
-    let e : takesAll t s ≡ saying (t .said) (takesAll (written t) s) =
-    ap (λ (l : List ℕ). takesAll (record { book = t .book; held = t .held; said = l }) s)
-    (sym (append-nil (t .said))) ∙ saying-all (t .said) (written t) s in
-    rw (e, saying-ends (t .said) (takesAll (written t) s))
-    (append-assoc (t .said) (ends (takesAll (written t) s) .said) (listing (ends (takesAll (written t) s) .book)))
+  closing-said :
+      (x : Terminal) (s : List ℕ) → closing (takesAll t x s) ≡ x .said ++ closing (takesAll t (written x) s)
+  closing-said x s =
+      let e : takesAll t x s ≡ saying (x .said) (takesAll t (written x) s) =
+      ap (λ (l : List ℕ). takesAll t (record { book = x .book; held = x .held; said = l }) s)
+      (sym (append-nil (x .said))) ∙ saying-all (x .said) (written x) s in
+      rw (e, saying-ends (x .said) (takesAll t (written x) s))
+      (append-assoc (x .said) (ends t (takesAll t (written x) s) .said)
+      (listing (ends t (takesAll t (written x) s) .book)))
 
-chunked : (t : Terminal) (cs : List (List ℕ)) → inChunks t cs ≡ closing (takesAll t (joined cs))
-unfolding inChunks joined takesAll
-chunked t [] = refl
-chunked t (c ∷ cs) =
-    ap (λ (l : List ℕ). takesAll t c .said ++ l) (chunked (written (takesAll t c)) cs)
-    ∙ sym (closing-said (takesAll t c) (joined cs))
-    ∙ ap closing (sym (takes-append t c (joined cs)))
+  chunked : (x : Terminal) (cs : List (List ℕ)) → inChunks t x cs ≡ closing (takesAll t x (joined cs))
+  unfolding inChunks joined takesAll
+  chunked x [] = refl
+  chunked x (c ∷ cs) =
+      ap (λ (l : List ℕ). takesAll t x c .said ++ l) (chunked (written (takesAll t x c)) cs)
+      ∙ sym (closing-said (takesAll t x c) (joined cs))
+      ∙ ap closing (sym (takes-append t x c (joined cs)))
 
 pub any-chunks : AnyChunks
 unfolding terminal
-any-chunks cs =
-    let w = comes freshBook [] [] (joined cs) in
-    chunked opened cs ∙ rw (w .book-is, w .said-is)
+any-chunks t cs =
+    let w = comes t freshBook [] [] (joined cs) in
+    chunked t opened cs ∙ rw (w .book-is, w .said-is)

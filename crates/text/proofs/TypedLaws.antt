@@ -4,9 +4,10 @@ use mathlib.Core.Bool.{Bool, true, false}
 use mathlib.Core.Path.{_≡_, refl}
 use native.Mathlib.Omega.{arith}
 use lib.ListN.{length}
-use Rattle.figuring.proofs.StandardLaws.{use-known}
+use Rattle.figuring.proofs.TableLaws.{use-known}
 use Rattle.figuring.proofs.EditionLaws.{edition-known}
 use Rattle.figuring.proofs.PartLaws.{Limited, limited}
+use Rattle.figuring.specs.Tables.{Table}
 use Rattle.book.specs.declared.ledger.Book.{Book}
 use Rattle.book.specs.declared.kinds.Call.{Call}
 use Rattle.book.specs.declared.kinds.Filing.{Filing}
@@ -29,12 +30,12 @@ form-length : (amends : Bool) → length (filingForm amends .pattern) ≤ 100
 form-length false = let p : length (filingForm false .pattern) ≡ 99 = refl in omega (arith, p)
 form-length true = let p : length (filingForm true .pattern) ≡ 100 = refl in omega (arith, p)
 
-module _ (b : Book) (f : Filing) (h : Fileable b f) where
+module _ (t : Table) (b : Book) (f : Filing) (h : Fileable t b f) where
   limits : Limited (f .fcl) (f .cf) (f .volume) (f .life)
   limits = limited (f .fcl) (f .cf) (f .volume) (f .life) (h .limits)
 
   used : f .«vehicle_use» < 2
-  used = use-known (f .set) (f .«vehicle_use») (f .year) (h .standard)
+  used = use-known t (f .set) (f .«vehicle_use») (f .year) (h .standard)
 
   edited : f .edition ≤ 2
   edited = edition-known (f .edition) (f .set) (f .year) (h .edition)
@@ -57,19 +58,19 @@ module _ (b : Book) (f : Filing) (h : Fileable b f) where
         digits 2 (f .life) (omega (arith, limits)),
       )
 
-pub can-be-typed : (b : Book) (f : Filing) → CanBeTyped b f
-can-be-typed b f a =
-    let h = accepted-filing b f a in
-    let l = limits b f h in
+pub can-be-typed : (t : Table) (b : Book) (f : Filing) → CanBeTyped t b f
+can-be-typed t b f a =
+    let h = accepted-filing t b f a in
+    let l = limits t b f h in
     record {
       text = refl;
-      short = short b f h;
+      short = short t b f h;
       small =
           omega (arith, h .maker)
           and omega (arith, h .set)
           and omega (arith, h .year, h .upto)
-          and omega (arith, used b f h)
-          and omega (arith, edited b f h)
+          and omega (arith, used t b f h)
+          and omega (arith, edited t b f h)
           and omega (arith, h .family)
           and omega (arith, l)
           and omega (arith, l)

@@ -11,6 +11,7 @@ use lib.ListN.{length, take, drop, length-append, length-drop, drop-of-length-le
 use lib.Seq.{sets as overwritten, sets-eq, take-all, drop-drop}
 use borrow.Author.Tests.{le-leb}
 use borrow.Rule.Slice.PartMut.{midOf, postOf, putMid, post-is}
+use Rattle.figuring.specs.Tables.{Table}
 use Rattle.text.specs.declared.answering.Step.{Step}
 use Rattle.text.specs.declared.desk.Desk.{Desk}
 use Rattle.text.specs.declared.desk.Reply.{Reply}
@@ -58,67 +59,73 @@ in-part {text} {l} {part} {a} {r} h k s =
     (w, omega (arith, same-long w, w .end-is))
 
 -- ---- the room that answers take
-said-more : (t : Terminal) (x : ℕ) → length (takes t x .said) ≤ length (t .said) + answerRoom
-said-more t x = go (eqb x lineFeed)
-  where
-    go : (e : Bool) → length (cond e (answering t) (holding t x) .said) ≤ length (t .said) + answerRoom
-    go true = rw length-append (omega (arith, text-length (answerTo (t .book) (t .held) .answer)))
-    go false = omega arith
+module _ (t : Table) where
+  said-more : (x : Terminal) (c : ℕ) → length (takes t x c .said) ≤ length (x .said) + answerRoom
+  said-more x c = go (eqb c lineFeed)
+    where
+      go : (e : Bool) → length (cond e (answering t x) (holding x c) .said) ≤ length (x .said) + answerRoom
+      go true = rw length-append (omega (arith, text-length (answerTo t (x .book) (x .held) .answer)))
+      go false = omega arith
 
-said-length : (t : Terminal) (s : List ℕ) → length (takesAll t s .said) ≤ length (t .said) + answerRoom * length s
-unfolding takesAll
-said-length t [] = omega arith
-said-length t (x ∷ s) = omega (arith, said-length (takes t x) s, said-more t x)
+  said-length :
+      (x : Terminal) (s : List ℕ) → length (takesAll t x s .said) ≤ length (x .said) + answerRoom * length s
+  unfolding takesAll
+  said-length x [] = omega arith
+  said-length x (c ∷ s) = omega (arith, said-length (takes t x c) s, said-more x c)
 
-ends-length : (t : Terminal) → length (ends t .said) ≤ length (t .said) + answerRoom
-ends-length t = go (ltb 0 (length (t .held)))
-  where
-    go : (e : Bool) → length (terminalIf e (answering t) t .said) ≤ length (t .said) + answerRoom
-    go true = rw length-append (omega (arith, text-length (answerTo (t .book) (t .held) .answer)))
-    go false = omega arith
+  ends-length : (x : Terminal) → length (ends t x .said) ≤ length (x .said) + answerRoom
+  ends-length x = go (ltb 0 (length (x .held)))
+    where
+      go : (e : Bool) → length (terminalIf e (answering t x) x .said) ≤ length (x .said) + answerRoom
+      go true = rw length-append (omega (arith, text-length (answerTo t (x .book) (x .held) .answer)))
+      go false = omega arith
 
 -- ---- the input in one chunk
-one-chunk :
-    (input : List ℕ) → takesAll opened input .said
-    ++ (ends (written (takesAll opened input)) .said ++ listing (ends (written (takesAll opened input)) .book))
-    ≡ terminal input
-unfolding inChunks joined
-one-chunk input = any-chunks (input ∷ []) ∙ ap terminal (append-nil input)
+module _ (t : Table) (input : List ℕ) where
+  -- the terminal that has taken it
+  abbrev taken : Terminal
+  taken = takesAll t opened input
 
-module _ (input : List ℕ) {out out₁ : List ℕ} {d : Desk} {f : Reply} (room : sessionRoom (length input) ≤ length out)
-    (begun : d ≡ openDesk)
-    (replied : RepliedBy (leb (length input) (length out / answerRoom)) d (takesAll (atDesk d) input) out f out₁) where
-  answers : Serves (takesAll opened input) out f out₁
-  answers = served (le-leb (length input) (length out / answerRoom) (omega arith)) (rw begun at replied)
+  one-chunk :
+      taken .said ++ (ends t (written taken) .said ++ listing (ends t (written taken) .book)) ≡ terminal t input
+  unfolding inChunks joined
+  one-chunk = any-chunks t (input ∷ []) ∙ ap (terminal t) (append-nil input)
 
-  stands : Stands (takesAll opened input .said) 0 out (f .at) out₁
-  stands = record { end-is = answers .at-is ∙ omega arith; out-is = answers .out-is }
+  module _ {out out₁ : List ℕ} {d : Desk} {f : Reply} (room : sessionRoom (length input) ≤ length out)
+      (begun : d ≡ openDesk)
+      (replied : RepliedBy (leb (length input) (length out / answerRoom)) d (takesAll t (atDesk d) input) out f out₁)
+    where
+      answers : Serves taken out f out₁
+      answers = served (le-leb (length input) (length out / answerRoom) (omega arith)) (rw begun at replied)
 
-  pub last-room : f .at + answerRoom ≤ length out₁
-  last-room = omega (arith, stands .end-is, same-long stands, said-length opened input)
+      stands : Stands (taken .said) 0 out (f .at) out₁
+      stands = record { end-is = answers .at-is ∙ omega arith; out-is = answers .out-is }
 
-  left : atDesk (f .desk) ≡ written (takesAll opened input)
-  left = rw (answers .book-is, answers .held-is)
+      pub last-room : f .at + answerRoom ≤ length out₁
+      last-room = omega (arith, stands .end-is, same-long stands, said-length t opened input)
 
-  module _ {s : Step} {out₂ : List ℕ} (ended : (s .book ≡ ends (atDesk (f .desk)) .book)
-      × Stands (ends (atDesk (f .desk)) .said) (f .at) out₁ (s .at) out₂) where
-    pub listing-room : s .at + listingRoom ≤ length out₂
-    listing-room =
-        omega (
-          arith,
-          stands .end-is,
-          same-long stands,
-          said-length opened input,
-          ended .1 .end-is,
-          same-long (ended .1),
-          ends-length (atDesk (f .desk)),
-        )
+      left : atDesk (f .desk) ≡ written taken
+      left = rw (answers .book-is, answers .held-is)
 
-    pub whole :
-        {r : ℕ} {out₃ : List ℕ} → Stands (listing (s .book)) (s .at) out₂ r out₃ → Stands (terminal input) 0 out r out₃
-    whole h =
-        let b : s .book ≡ ends (written (takesAll opened input)) .book =
-        ended .0 ∙ ap (λ (t : Terminal). ends t .book) left in
-        let e : Stands (ends (written (takesAll opened input)) .said) (f .at) out₁ (s .at) out₂ =
-        as-text (ap (λ (t : Terminal). ends t .said) left) (ended .1) in
-        as-text (one-chunk input) (after-text stands (after-text e (as-text (ap listing b) h)))
+      module _ {s : Step} {out₂ : List ℕ} (ended : (s .book ≡ ends t (atDesk (f .desk)) .book)
+          × Stands (ends t (atDesk (f .desk)) .said) (f .at) out₁ (s .at) out₂) where
+        pub listing-room : s .at + listingRoom ≤ length out₂
+        listing-room =
+            omega (
+              arith,
+              stands .end-is,
+              same-long stands,
+              said-length t opened input,
+              ended .1 .end-is,
+              same-long (ended .1),
+              ends-length t (atDesk (f .desk)),
+            )
+
+        pub whole :
+            {r : ℕ} {out₃ : List ℕ} → Stands (listing (s .book)) (s .at) out₂ r out₃
+            → Stands (terminal t input) 0 out r out₃
+        whole h =
+            let b : s .book ≡ ends t (written taken) .book = ended .0 ∙ ap (λ (x : Terminal). ends t x .book) left in
+            let e : Stands (ends t (written taken) .said) (f .at) out₁ (s .at) out₂ =
+            as-text (ap (λ (x : Terminal). ends t x .said) left) (ended .1) in
+            as-text one-chunk (after-text stands (after-text e (as-text (ap listing b) h)))

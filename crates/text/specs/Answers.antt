@@ -9,6 +9,7 @@ use Rattle.book.specs.declared.answers.Posted.{Posted}
 use Rattle.book.specs.declared.answers.Refusal.{Refusal}
 use Rattle.book.specs.declared.answers.Answer.{Answer}
 use Rattle.book.specs.Refusals.{refusalIn, valuesIn}
+use Rattle.figuring.specs.Tables.{Table}
 use Rattle.book.specs.Rules.{posted, refusedWith}
 use Rattle.text.specs.declared.lines.Line.{Line}
 use Rattle.text.specs.declared.answering.Step.{Step}
@@ -41,22 +42,22 @@ saidFor (suc n) vs = ascii "(no " ++ (numeral (suc n) ++ ascii ")\n")
 unfoldable pub textOf : Answer → List ℕ
 textOf a = saidFor (refusalIn a) (valuesIn a)
 
--- what a line gives that is read so: the book layer's outcome; or refusal 1, "the line isn't one of the forms", and
--- the book unchanged
-abbrev pub postedLine : Book → Line → Posted
-postedLine b Line.NoForm = refusedWith b Refusal.NotAForm
-postedLine b (Line.Form c) = posted b c
+-- what a line gives that is read so, with a table of standards: the book layer's outcome; or refusal 1, "the line isn't
+-- one of the forms", and the book unchanged
+abbrev pub postedLine : Table → Book → Line → Posted
+postedLine t b Line.NoForm = refusedWith b Refusal.NotAForm
+postedLine t b (Line.Form c) = posted t b c
 
--- a line answered with a book: its answer, and the book after it, for any bytes and any book
-unfoldable pub answerTo : Book → List ℕ → Posted
-answerTo b s = postedLine b (lineOf s)
+-- a line answered with a table and a book: its answer, and the book after it, for any bytes, any table and any book
+unfoldable pub answerTo : Table → Book → List ℕ → Posted
+answerTo t b s = postedLine t b (lineOf s)
 
 -- by the rendering of calls alone
 pub record ByText : Type 0 where
-  pub form : (b : Book) (s : List ℕ) (c : Call) → IsText s c → answerTo b s ≡ posted b c
-  pub no-form : (b : Book) (s : List ℕ) → NoText s → answerTo b s ≡ refusedWith b Refusal.NotAForm
+  pub form : (t : Table) (b : Book) (s : List ℕ) (c : Call) → IsText s c → answerTo t b s ≡ posted t b c
+  pub no-form : (t : Table) (b : Book) (s : List ℕ) → NoText s → answerTo t b s ≡ refusedWith b Refusal.NotAForm
 
 -- a line answered into a buffer: the book after it, and the answer's text from at on
-pub record Answered (b : Book) (s out : List ℕ) (at : ℕ) (r : Step) (out′ : List ℕ) : Type 0 where
-  pub book-is : r .book ≡ answerTo b s .book
-  pub stands : Stands (textOf (answerTo b s .answer)) at out (r .at) out′
+pub record Answered (t : Table) (b : Book) (s out : List ℕ) (at : ℕ) (r : Step) (out′ : List ℕ) : Type 0 where
+  pub book-is : r .book ≡ answerTo t b s .book
+  pub stands : Stands (textOf (answerTo t b s .answer)) at out (r .at) out′

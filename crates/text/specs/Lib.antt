@@ -8,6 +8,8 @@ pub mod Answers
 pub mod Desk
 pub mod Serving
 pub mod Lines
+pub mod TableText
+pub mod TableReading
 pub mod Listing
 pub mod Program
 pub mod Examples

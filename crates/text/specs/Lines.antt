@@ -1,9 +1,10 @@
--- The input's lines, each answered in order with the book that the one before left.
+-- The input's lines, each answered in order with one table and with the book that the one before left.
 use Prim.Native.Nat.{ℕ}
 use mathlib.Core.Bool.{cond}
 use mathlib.Core.Path.{_≡_}
 use mathlib.Core.List.{List, [], _∷_, _++_}
 use lib.Dec.{eqb}
+use Rattle.figuring.specs.Tables.{Table}
 use Rattle.book.specs.declared.ledger.Book.{Book}
 use Rattle.text.specs.Answers.{answerTo, textOf}
 use Rattle.text.specs.Desk.{lineFeed}
@@ -32,11 +33,11 @@ pub record Lines : Type 0 where
   pub last : (l : List ℕ) → OneLine l → linesOf l ≡ lastLine l
 
 -- what some lines are answered
-unfoldable pub answersTo : Book → List (List ℕ) → List ℕ
-answersTo b [] = []
-answersTo b (l ∷ ls) = textOf (answerTo b l .answer) ++ answersTo (answerTo b l .book) ls
+unfoldable pub answersTo : Table → Book → List (List ℕ) → List ℕ
+answersTo t b [] = []
+answersTo t b (l ∷ ls) = textOf (answerTo t b l .answer) ++ answersTo t (answerTo t b l .book) ls
 
 -- the book after them
-unfoldable pub bookAfterLines : Book → List (List ℕ) → Book
-bookAfterLines b [] = b
-bookAfterLines b (l ∷ ls) = bookAfterLines (answerTo b l .book) ls
+unfoldable pub bookAfterLines : Table → Book → List (List ℕ) → Book
+bookAfterLines t b [] = b
+bookAfterLines t b (l ∷ ls) = bookAfterLines t (answerTo t b l .book) ls

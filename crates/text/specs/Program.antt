@@ -2,15 +2,17 @@
 use Prim.Native.Nat.{ℕ, _+_, _*_}
 use mathlib.Core.Path.{_≡_}
 use mathlib.Core.List.{List, [], _∷_, _++_}
+use Rattle.figuring.specs.Tables.{Table}
 use Rattle.book.specs.Postings.{freshBook}
 use Rattle.text.specs.Answers.{answerRoom}
 use Rattle.text.specs.Desk.{Terminal, takesAll, ends}
 use Rattle.text.specs.Lines.{linesOf, answersTo, bookAfterLines}
 use Rattle.text.specs.Listing.{listing, listingRoom}
 
--- "The program starts from a fresh book, reads standard input, answers each line .., then lists the cells"
-unfoldable pub terminal : List ℕ → List ℕ
-terminal input = answersTo freshBook (linesOf input) ++ listing (bookAfterLines freshBook (linesOf input))
+-- "The program starts from a fresh book, reads standard input, answers each line .., then lists the cells", with one
+-- table of standards for the run
+unfoldable pub terminal : Table → List ℕ → List ℕ
+terminal t input = answersTo t freshBook (linesOf input) ++ listing (bookAfterLines t freshBook (linesOf input))
 
 -- room for what an input of n bytes can be answered: an answer for each byte and for one line more, and any listing
 abbrev pub sessionRoom : ℕ → ℕ
@@ -21,17 +23,17 @@ opened = record { book = freshBook; held = []; said = [] }
 
 -- the terminal once what it has said is written
 abbrev pub written : Terminal → Terminal
-written t = record { book = t .book; held = t .held; said = [] }
+written x = record { book = x .book; held = x .held; said = [] }
 
 -- the input in chunks: each is answered, and the answers written, before the next is read; then last line and listing
-unfoldable pub inChunks : Terminal → List (List ℕ) → List ℕ
-inChunks t [] = ends t .said ++ listing (ends t .book)
-inChunks t (c ∷ cs) = takesAll t c .said ++ inChunks (written (takesAll t c)) cs
+unfoldable pub inChunks : Table → Terminal → List (List ℕ) → List ℕ
+inChunks t x [] = ends t x .said ++ listing (ends t x .book)
+inChunks t x (c ∷ cs) = takesAll t x c .said ++ inChunks t (written (takesAll t x c)) cs
 
 unfoldable pub joined : List (List ℕ) → List ℕ
 joined [] = []
 joined (c ∷ cs) = c ++ joined cs
 
--- whatever the chunks that the input comes in, what is written is the terminal's answer to the input
+-- whatever the table and the chunks that the input comes in, what is written is the terminal's answer to the input
 abbrev pub AnyChunks : Type 0
-AnyChunks = (chunks : List (List ℕ)) → inChunks opened chunks ≡ terminal (joined chunks)
+AnyChunks = (t : Table) (chunks : List (List ℕ)) → inChunks t opened chunks ≡ terminal t (joined chunks)

@@ -4,6 +4,7 @@ use mathlib.Core.Bool.{Bool, true, false}
 use mathlib.Core.Path.{_≡_}
 use mathlib.Core.List.{List, [], _∷_}
 use lib.ListN.{length}
+use Rattle.figuring.specs.Tables.{Table}
 use Rattle.book.specs.Rules.{posted}
 use Rattle.book.specs.Demand3.{isAccepted}
 use Rattle.book.specs.declared.ledger.Book.{Book}
@@ -57,10 +58,11 @@ pub record IsText (s : List ℕ) (c : Call) : Type 0 where
   pub short : length s ≤ longestLine
   pub small : Small mostDigits (figuresIn c)
 
--- A filing or an amendment that some book accepts, so one with every figure within its limits, can be typed: its text is
--- short enough.
-abbrev pub CanBeTyped : Book → Filing → Type 0
-CanBeTyped b f = isAccepted (posted b (Call.File f) .answer) ≡ true → IsText (rendered (Call.File f)) (Call.File f)
+-- A filing or an amendment that some book accepts with some table, so one with every figure within its limits, can be
+-- typed: its text is short enough.
+abbrev pub CanBeTyped : Table → Book → Filing → Type 0
+CanBeTyped t b f =
+    isAccepted (posted t b (Call.File f) .answer) ≡ true → IsText (rendered (Call.File f)) (Call.File f)
 
 -- a line is no call's text
 abbrev pub NoText : List ℕ → Type 0

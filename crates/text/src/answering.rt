@@ -1,4 +1,4 @@
-// A line answered with a book, and an answer as text.
+// A line answered with a book and a table of standards, and an answer as text.
 ghost use mathlib.Core.Path.{_≡_};
 ghost use Prim.Native.Nat.{_+_, _≤_};
 ghost use lib.ListN.{length};
@@ -18,31 +18,32 @@ use book::in_place::post_in;
 use book::ledger::Book;
 use book::posting::post;
 use figuring::netting::size_of;
+use figuring::tables::Table;
 
 // No answer's line is longer.
 pub const ANSWER_ROOM: usize = 64;
 
-// The answer to a line, for any bytes (without the line feed), and the book after it.
-pub fn answer_line(book: Book, line: &[u8]) -> Posted
-    ensures { λ r. ⌜ r ≡ answerTo book (now (line .entry)) ⌝ }
+// The answer to a line, for any bytes (without the line feed) and any table, and the book after it.
+pub fn answer_line(book: Book, table: Table, line: &[u8]) -> Posted
+    ensures { λ r. ⌜ r ≡ answerTo table book (now (line .entry)) ⌝ }
 {
     match read_line(line) {
         Line::NoForm => Posted {
             answer: Answer::Refused(Refusal::NotAForm),
             book,
         },
-        Line::Form(call) => post(book, call),
+        Line::Form(call) => post(book, table, call),
     }
 }
 
 // A line that has been read, answered in place. A line that is no form leaves the book untouched.
-pub fn line_in(book: &mut Book, line: Line) -> Answer
-    ensures { λ a. ⌜ (a ≡ postedLine (now (book .entry)) line .answer)
-        × (now (book .exit) ≡ postedLine (now (book .entry)) line .book) ⌝ }
+pub fn line_in(book: &mut Book, table: Table, line: Line) -> Answer
+    ensures { λ a. ⌜ (a ≡ postedLine table (now (book .entry)) line .answer)
+        × (now (book .exit) ≡ postedLine table (now (book .entry)) line .book) ⌝ }
 {
     match line {
         Line::NoForm => Answer::Refused(Refusal::NotAForm),
-        Line::Form(call) => post_in(book, call),
+        Line::Form(call) => post_in(book, table, call),
     }
 }
 
@@ -100,11 +101,11 @@ pub struct Step {
 }
 
 // Answers a line, and puts the answer's text where there is room.
-pub(crate) fn answer_into(book: Book, line: &[u8], out: &mut [u8], at: usize) -> Step
+pub(crate) fn answer_into(book: Book, table: Table, line: &[u8], out: &mut [u8], at: usize) -> Step
     requires { ⌜ at + answerRoom ≤ length (now out) ⌝ }
-    ensures { λ r. ⌜ Answered book (now (line .entry)) (now (out .entry)) at r (now (out .exit)) ⌝ }
+    ensures { λ r. ⌜ Answered table book (now (line .entry)) (now (out .entry)) at r (now (out .exit)) ⌝ }
 {
-    let p = answer_line(book, line);
+    let p = answer_line(book, table, line);
     let a = p.answer;
     let b = p.book;
     let e = write_answer(out, at, a);

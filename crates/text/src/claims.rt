@@ -8,6 +8,8 @@ ghost use Rattle.text.specs.Examples.{Edges, Fields, Run};
 ghost use Rattle.text.specs.Lines.{Lines};
 ghost use Rattle.text.specs.Program.{AnyChunks};
 ghost use Rattle.text.specs.Rendered.{CanBeTyped, Reads};
+ghost use Rattle.text.specs.TableText.{TableTexts};
+ghost use Rattle.figuring.specs.Tables.{Table};
 ghost use Rattle.book.specs.declared.ledger.Book.{Book};
 ghost use Rattle.book.specs.declared.kinds.Filing.{Filing};
 
@@ -19,9 +21,9 @@ pub fn calls_by_their_text() -> bool
     true
 }
 
-// A filing that some book accepts has a text of at most 160 bytes, which is read as it.
+// A filing that some book accepts with some table has a text of at most 160 bytes, which is read as it.
 pub fn filings_can_be_typed() -> bool
-    ensures { λ r. ⌜ (r ≡ true) × ((b : Book) (f : Filing) → CanBeTyped b f) ⌝ }
+    ensures { λ r. ⌜ (r ≡ true) × ((t : Table) (b : Book) (f : Filing) → CanBeTyped t b f) ⌝ }
 {
     true
 }
@@ -40,7 +42,16 @@ pub fn lines_by_line_feeds() -> bool
     true
 }
 
-// In whatever chunks an input comes, what is written is the answers to its lines and then the listing.
+// A text is read as an accepted table exactly where it is that table's text, which may lack its last line feed; any
+// other is refused by 19 or 20. Its first 3,865 bytes decide.
+pub fn tables_by_their_text() -> bool
+    ensures { λ r. ⌜ (r ≡ true) × TableTexts ⌝ }
+{
+    true
+}
+
+// With whatever table, and in whatever chunks an input comes, what is written is the answers to its lines and then the
+// listing.
 pub fn any_chunks() -> bool
     ensures { λ r. ⌜ (r ≡ true) × AnyChunks ⌝ }
 {

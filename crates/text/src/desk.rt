@@ -1,4 +1,5 @@
-// The input to its lines: a desk takes any chunk of bytes, and answers each line that ends in it.
+// The input to its lines: a desk takes any chunk of bytes, and answers each line that ends in it. The table of standards
+// is one for the whole run; a desk does not hold it, so each call is handed it.
 ghost use mathlib.Core.Bool.{true};
 ghost use mathlib.Core.Path.{_≡_};
 ghost use Prim.Native.Nat.{_*_, _/_, _≤_, min};
@@ -13,6 +14,7 @@ use crate::serving::next_line;
 use crate::serving::serve;
 use book::ledger::Book;
 use book::ledger::fresh;
+use figuring::tables::Table;
 
 // The book, and the first len bytes of a line that has not ended yet. What lies past len is nobody's: a call may leave
 // anything there, and `ByWhatIsHeld` says that it shows nowhere, so two desks are compared by what they hold.
@@ -40,11 +42,12 @@ pub fn open_desk() -> Desk
     }
 }
 
-// The next bytes of the input: each line that ends in them is answered, with the book that the one before left.
+// The next bytes of the input: each line that ends in them is answered, with the table, and the book that the one before
+// left.
 // out has room if it has ANSWER_ROOM bytes for each byte of the chunk; if not, nothing is done.
-pub fn take_in(desk: Desk, chunk: &[u8], out: &mut [u8]) -> Reply
+pub fn take_in(desk: Desk, table: Table, chunk: &[u8], out: &mut [u8]) -> Reply
     ensures { λ r. ⌜ RepliedBy (leb (length (now (chunk .entry))) (length (now (out .entry)) / answerRoom)) desk
-        (takesAll (atDesk desk) (now (chunk .entry))) (now (out .entry)) r (now (out .exit)) ⌝ }
+        (takesAll table (atDesk desk) (now (chunk .entry))) (now (out .entry)) r (now (out .exit)) ⌝ }
 {
     if out.len() / ANSWER_ROOM < chunk.len() {
         return Reply {
@@ -53,12 +56,12 @@ pub fn take_in(desk: Desk, chunk: &[u8], out: &mut [u8]) -> Reply
             at: 0,
         };
     }
-    take_chunk(desk, chunk, out)
+    take_chunk(desk, table, chunk, out)
 }
 
 // The end of the input: a last line that lacks its line feed is answered. out has room if it has ANSWER_ROOM bytes.
-pub fn last(desk: Desk, out: &mut [u8]) -> Reply
-    ensures { λ r. ⌜ RepliedBy (leb answerRoom (length (now (out .entry)))) desk (ends (atDesk desk))
+pub fn last(desk: Desk, table: Table, out: &mut [u8]) -> Reply
+    ensures { λ r. ⌜ RepliedBy (leb answerRoom (length (now (out .entry)))) desk (ends table (atDesk desk))
         (now (out .entry)) r (now (out .exit)) ⌝ }
 {
     if out.len() < ANSWER_ROOM {
@@ -68,7 +71,7 @@ pub fn last(desk: Desk, out: &mut [u8]) -> Reply
             at: 0,
         };
     }
-    take_last(desk, out)
+    take_last(desk, table, out)
 }
 
 // How many bytes a desk holds, whatever its len says.
@@ -78,15 +81,15 @@ fn held_count(len: usize) -> usize
     if len < MOST_HELD { len } else { MOST_HELD }
 }
 
-fn take_chunk(desk: Desk, chunk: &[u8], out: &mut [u8]) -> Reply
+fn take_chunk(desk: Desk, table: Table, chunk: &[u8], out: &mut [u8]) -> Reply
     requires { ⌜ answerRoom * length (now chunk) ≤ length (now out) ⌝ }
-    ensures { λ r. ⌜ RepliedBy true desk (takesAll (atDesk desk) (now (chunk .entry)))
+    ensures { λ r. ⌜ RepliedBy true desk (takesAll table (atDesk desk) (now (chunk .entry)))
         (now (out .entry)) r (now (out .exit)) ⌝ }
 {
     let held = desk.held;
     let first = next_line(held, held_count(desk.len), chunk, 0, 0);
     let book = desk.book;
-    let s = serve(book, first, chunk, out);
+    let s = serve(book, table, first, chunk, out);
     let t = s.turn;
     let b = s.book;
     let h = t.held;
@@ -101,9 +104,9 @@ fn take_chunk(desk: Desk, chunk: &[u8], out: &mut [u8]) -> Reply
     }
 }
 
-fn take_last(desk: Desk, out: &mut [u8]) -> Reply
+fn take_last(desk: Desk, table: Table, out: &mut [u8]) -> Reply
     requires { ⌜ answerRoom ≤ length (now out) ⌝ }
-    ensures { λ r. ⌜ RepliedBy true desk (ends (atDesk desk)) (now (out .entry)) r (now (out .exit)) ⌝ }
+    ensures { λ r. ⌜ RepliedBy true desk (ends table (atDesk desk)) (now (out .entry)) r (now (out .exit)) ⌝ }
 {
     let book = desk.book;
     let held = desk.held;
@@ -115,7 +118,7 @@ fn take_last(desk: Desk, out: &mut [u8]) -> Reply
             at: 0,
         };
     }
-    let s = answer_into(book, &held[..len], out, 0);
+    let s = answer_into(book, table, &held[..len], out, 0);
     let b = s.book;
     Reply {
         fits: true,

@@ -10,3 +10,4 @@ pub mod placing;
 pub mod reader;
 mod serving;
 pub mod session;
+pub mod tables;

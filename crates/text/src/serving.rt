@@ -11,6 +11,7 @@ use crate::lines::Line;
 use crate::reader::read_line;
 use book::answers::Answer;
 use book::ledger::Book;
+use figuring::tables::Table;
 
 // A line is held up to this many bytes, one more than the longest form has: they stand for any longer line.
 pub(crate) const MOST_HELD: usize = 161;
@@ -34,16 +35,16 @@ pub struct Served {
     pub turn: Turn,
 }
 
-// Answers each line that ends in the chunk, from the first one on, with the book that the one before left.
-pub(crate) fn serve(book: Book, first: Turn, chunk: &[u8], out: &mut [u8]) -> Served
+// Answers each line that ends in the chunk, from the first one on, with the table, and the book that the one before left.
+pub(crate) fn serve(book: Book, table: Table, first: Turn, chunk: &[u8], out: &mut [u8]) -> Served
     requires { ⌜ Ready first (now chunk) (now out) ⌝ }
-    ensures { λ r. ⌜ ServedBy (goesOn book [] (now (chunk .entry)) first) (now (out .entry)) r (now (out .exit)) ⌝ }
+    ensures { λ r. ⌜ ServedBy (goesOn table book [] (now (chunk .entry)) first) (now (out .entry)) r (now (out .exit)) ⌝ }
 {
     let mut own = book;
     let mut turn = first;
     while turn.ended {
         let line = turn.line;
-        let answer = line_in(&mut own, line);
+        let answer = line_in(&mut own, table, line);
         turn = after(turn, answer, chunk, out);
     }
     Served { book: own, turn }

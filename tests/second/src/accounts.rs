@@ -1,9 +1,11 @@
-//! The accounts of a whole list of calls: fed the calls' arguments and, of
-//! each answer, only whether it was a refusal. Nothing is read from a book.
+//! The accounts of a whole list of calls: fed the calls' arguments, the table
+//! that each was handed, and, of each answer, only whether it was a refusal.
+//! Nothing is read from a book.
 
 use crate::book::{cell, CELLS, MAKERS, SETS};
-use crate::figuring::{named_standard, part, rounded, year_index, Part, YEARS};
+use crate::figuring::{part, rounded, year_index, Part, YEARS};
 use crate::postings::{Call, Filing};
+use crate::standards::Table;
 use std::array;
 use std::collections::BTreeMap;
 
@@ -46,7 +48,8 @@ impl Account {
     }
 }
 
-/// An accepted call named a place or a figure that no account has.
+/// An accepted call named a place or a figure that no account has, or was
+/// figured under a table that is not accepted.
 #[derive(Clone, Copy, Debug, PartialEq, Eq)]
 pub struct OutOfPlace;
 
@@ -64,13 +67,13 @@ impl Default for Accounts {
 }
 
 impl Accounts {
-    /// Takes the next call of the list.
-    pub fn feed(&mut self, call: &Call, accepted: bool) -> Result<(), OutOfPlace> {
+    /// Takes the next call of the list, with its table.
+    pub fn feed(&mut self, table: &Table, call: &Call, accepted: bool) -> Result<(), OutOfPlace> {
         if !accepted {
             return Ok(());
         }
         match call {
-            Call::File(filing) | Call::Amend(filing) => self.count(filing)?,
+            Call::File(filing) | Call::Amend(filing) => self.count(table, filing)?,
             Call::Close { year } => self.close(*year)?,
             Call::Trade(c) => {
                 self.account_mut(c.from, c.set, c.vintage)?.sold += i128::from(c.mg);
@@ -97,10 +100,14 @@ impl Accounts {
         Ok(&mut self.by_cell[cell][year])
     }
 
-    /// A family counts with these figures, under the standard that they name,
-    /// in place of those it counted with.
-    fn count(&mut self, filing: &Filing) -> Result<(), OutOfPlace> {
-        let part = named_standard(filing.edition, filing.set, filing.usage, filing.year)
+    /// A family counts with these figures, under the standard that they name
+    /// by this table, in place of those it counted with.
+    fn count(&mut self, table: &Table, filing: &Filing) -> Result<(), OutOfPlace> {
+        if !table.is_accepted() {
+            return Err(OutOfPlace);
+        }
+        let part = table
+            .named_standard(filing.edition, filing.set, filing.usage, filing.year)
             .and_then(|standard| part(standard, &filing.figures))
             .ok_or(OutOfPlace)?;
         let account = self.account_mut(filing.maker, filing.set, filing.year)?;

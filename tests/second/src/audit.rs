@@ -4,6 +4,7 @@ use crate::accounts::{place, Accounts, OutOfPlace};
 use crate::book::{Book, MAKERS, SETS};
 use crate::figuring::{FIRST_YEAR, LAST_YEAR};
 use crate::postings::{Application, Call};
+use crate::standards::Table;
 
 /// A claim of the paper that does not hold, in words.
 #[derive(Clone, Debug, PartialEq, Eq)]
@@ -21,9 +22,11 @@ pub struct Audit {
 }
 
 impl Audit {
-    /// Takes the next call, whether it was accepted, and the book around it.
+    /// Takes the next call with its table, whether it was accepted, and the book
+    /// around it.
     pub fn judge(
         &mut self,
+        table: &Table,
         call: &Call,
         accepted: bool,
         before: &Book,
@@ -35,7 +38,7 @@ impl Audit {
         if let Call::Apply(application) = call {
             self.hold_covering(application)?;
         }
-        self.accounts.feed(call, accepted)?;
+        self.accounts.feed(table, call, accepted)?;
         hold(after.is_sound(), || {
             "the book is not sound after an accepted posting".into()
         })?;

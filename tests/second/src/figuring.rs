@@ -1,4 +1,4 @@
-//! Standards, a family's part, rounding, and the life of lots and shortages.
+//! A family's part, rounding, and the life of lots and shortages.
 
 use std::cmp::Ordering;
 use std::fmt;
@@ -61,65 +61,17 @@ impl Figures {
     }
 }
 
-/// The ordinary standard in g/hp-hr, or none. "On" is read without an end, so
-/// years above 2037 have the last row's standard; no posting ever asks for one.
-pub fn standard(set: u64, usage: u64, year: u64) -> Option<u16> {
-    match (set, usage) {
-        (0, 0) => (year >= 2016).then_some(627),
-        (1, 0) => by_period(year, [600, 576, 563, 555, 552]),
-        (2, 0) => by_period(year, [600, 576, 545, 538, 535]),
-        (3, 0) => by_period(year, [567, 555, 513, 506, 503]),
-        (2, 1) => by_period(year, [502, 487, 473, 461, 457]),
-        (3, 1) => by_period(year, [475, 460, 447, 436, 432]),
-        _ => None,
-    }
-}
-
-fn by_period(year: u64, [a, b, c, d, e]: [u16; 5]) -> Option<u16> {
-    match year {
-        2014..=2016 => Some(a),
-        2017..=2020 => Some(b),
-        2021..=2023 => Some(c),
-        2024..=2026 => Some(d),
-        2027.. => Some(e),
-        _ => None,
-    }
-}
-
-/// The standard that a filing names by its edition: 0 the ordinary one, 1 and
-/// 2 the alternative one of 1036.150(p)(2), by the earlier table and the later.
-pub fn named_standard(edition: u64, set: u64, usage: u64, year: u64) -> Option<u16> {
-    match edition {
-        0 => standard(set, usage, year),
-        1 => alternative(set, usage, year, [538, 506, 467, 442]),
-        2 => alternative(set, usage, year, [542, 510, 467, 442]),
-        _ => None,
-    }
-}
-
-/// Medium vocational, heavy vocational, medium tractor, heavy tractor.
-fn alternative(set: u64, usage: u64, year: u64, [a, b, c, d]: [u16; 4]) -> Option<u16> {
-    match (set, usage) {
-        _ if !(2024..=2026).contains(&year) => None,
-        (2, 0) => Some(a),
-        (3, 0) => Some(b),
-        (2, 1) => Some(c),
-        (3, 1) => Some(d),
-        _ => None,
-    }
-}
-
-/// The family's part, or none if a figure is outside its limits. Within them
-/// the product stays below 65,535 x 5 x 10^13 for any standard, which is below
-/// 2^63.
-pub fn part(standard: u16, figures: &Figures) -> Option<Part> {
+/// The family's part, or none if a figure is outside its limits. Within them,
+/// and with a standard of an accepted table or an edition, it is at most 768 x
+/// 5 x 10^13 on either side of zero; of a standard far above these there may be
+/// no part of 64 bits.
+pub fn part(standard: u64, figures: &Figures) -> Option<Part> {
     if !figures.within_limits() {
         return None;
     }
-    let margin = i64::from(standard) - figures.fcl as i64;
-    Some(Part(
-        margin * (figures.cf * figures.volume * figures.life) as i64,
-    ))
+    let margin = i128::from(standard) - i128::from(figures.fcl);
+    let part = margin * i128::from(figures.cf * figures.volume * figures.life);
+    i64::try_from(part).ok().map(Part)
 }
 
 /// A sum of parts rounded to the nearest Mg, signed; an exact half goes to the

@@ -2,10 +2,11 @@
 //! from the words of document 01 and the cards so that another one can be held
 //! against it.
 //!
-//! `figuring`, `book` and `postings` are the rules; `text` and `listing` the
-//! terminal; `accounts` and `audit` the claims about a whole list of calls;
-//! `session` runs a terminal session; `generate` writes sessions for testing;
-//! `asked` runs the commands that compare.
+//! `standards`, `figuring`, `book` and `postings` are the rules; `text` and
+//! `listing` the terminal, `std_text` its tables; `accounts` and `audit` the
+//! claims about a whole list of calls; `session` runs a terminal session;
+//! `generate` writes sessions and tables for testing; `asked` and `room` serve
+//! the commands that run another program.
 
 #![forbid(unsafe_code)]
 
@@ -17,5 +18,8 @@ pub mod figuring;
 pub mod generate;
 pub mod listing;
 pub mod postings;
+pub mod room;
 pub mod session;
+pub mod standards;
+pub mod std_text;
 pub mod text;

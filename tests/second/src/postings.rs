@@ -1,12 +1,10 @@
 //! The six postings, each with its refusals in the paper's checking order.
 
 use crate::book::{cell, Book, CELLS, FAMILIES, MAKERS, SETS};
-use crate::figuring::{
-    is_live, is_open, named_standard, part, rounded, standard, year_index, Figures, Mg, Part,
-    ALL_CLOSED,
-};
+use crate::figuring::{is_live, is_open, part, rounded, year_index, Figures, Mg, Part, ALL_CLOSED};
+use crate::standards::Table;
 
-/// A call with its arguments other than the book.
+/// A call with its arguments other than the book and the table.
 #[derive(Clone, Copy, Debug, PartialEq, Eq)]
 pub enum Call {
     File(Filing),
@@ -27,7 +25,7 @@ pub struct Filing {
     pub year: u64,
     /// The paper's "use": 0 vocational, 1 tractor.
     pub usage: u64,
-    /// 0 the ordinary standard, 1 and 2 the alternative one.
+    /// 0 the table's standard, 1 and 2 the alternative one.
     pub edition: u64,
     pub family: u64,
     pub figures: Figures,
@@ -70,9 +68,10 @@ pub enum Results {
     Left(Mg),
 }
 
-/// The refusal list; each value is the paper's number. `NoEdition` is checked
-/// between `NoStandard` and `Family`, and `NotFiled` stands in an amendment in
-/// place of `AlreadyFiled`.
+/// The refusal list; each value is the paper's number. `Table` is checked
+/// between `UnsoundBook` and `Maker`, `NoEdition` between `NoStandard` and
+/// `Family`, and `NotFiled` stands in an amendment in place of `AlreadyFiled`.
+/// `StdLine` is of a table's text alone.
 #[derive(Clone, Copy, Debug, PartialEq, Eq)]
 pub enum Refusal {
     NoForm = 1,
@@ -93,6 +92,8 @@ pub enum Refusal {
     AboveTheShortage = 16,
     NoEdition = 17,
     NotFiled = 18,
+    StdLine = 19,
+    Table = 20,
 }
 
 impl Refusal {
@@ -103,12 +104,13 @@ impl Refusal {
 
 pub type Answer = Result<Results, Refusal>;
 
-/// Posts a call to the book in place; a refusal leaves the book as it was.
-pub fn post(book: &mut Book, call: &Call) -> Answer {
+/// Posts a call to the book in place; a refusal leaves the book as it was. Only
+/// filings and amendments read the table.
+pub fn post(book: &mut Book, table: &Table, call: &Call) -> Answer {
     require(book.is_sound(), Refusal::UnsoundBook)?;
     match call {
-        Call::File(filing) => file(book, filing),
-        Call::Amend(amended) => amend(book, amended),
+        Call::File(filing) => file(book, table, filing),
+        Call::Amend(amended) => amend(book, table, amended),
         Call::Close { year } => close(book, *year),
         Call::Trade(trade) => post_trade(book, trade),
         Call::Apply(application) => apply(book, application),
@@ -119,16 +121,16 @@ pub fn post(book: &mut Book, call: &Call) -> Answer {
 // Each function below is handed a sound book and moves nothing before its
 // last check.
 
-fn file(book: &mut Book, filing: &Filing) -> Answer {
-    let family = figured(book, filing)?;
+fn file(book: &mut Book, table: &Table, filing: &Filing) -> Answer {
+    let family = figured(book, table, filing)?;
     require(!is_filed(book, &family), Refusal::AlreadyFiled)?;
 
     book.marks[family.cell] |= 1 << family.number;
     Ok(put(book, &family))
 }
 
-fn amend(book: &mut Book, amended: &Filing) -> Answer {
-    let family = figured(book, amended)?;
+fn amend(book: &mut Book, table: &Table, amended: &Filing) -> Answer {
+    let family = figured(book, table, amended)?;
     require(is_filed(book, &family), Refusal::NotFiled)?;
 
     Ok(put(book, &family))
@@ -143,11 +145,12 @@ struct Family {
 
 /// What a filing and an amendment are asked alike: all but whether the family
 /// is filed.
-fn figured(book: &Book, filing: &Filing) -> Result<Family, Refusal> {
+fn figured(book: &Book, table: &Table, filing: &Filing) -> Result<Family, Refusal> {
+    require(table.is_accepted(), Refusal::Table)?;
     let maker = known_maker(filing.maker)?;
     let set = known_set(filing.set)?;
     require_open_year(book, filing.year)?;
-    let standard = standard_of(filing)?;
+    let standard = standard_of(table, filing)?;
     let number = below(filing.family, FAMILIES).ok_or(Refusal::Family)?;
     let part = part(standard, &filing.figures).ok_or(Refusal::Limits)?;
     let cell = cell(maker, set);
@@ -168,9 +171,9 @@ fn put(book: &mut Book, family: &Family) -> Results {
 }
 
 /// The standard that a filing names. Whatever its edition, refusal 6 goes by
-/// the ordinary one; where there is that, what the named one lacks is an
-/// edition that there is, or its sets or years.
-fn standard_of(filing: &Filing) -> Result<u16, Refusal> {
+/// the table; where that has a standard, what the named one lacks is an edition
+/// that there is, or its sets or years.
+fn standard_of(table: &Table, filing: &Filing) -> Result<u64, Refusal> {
     let &Filing {
         set,
         year,
@@ -178,8 +181,10 @@ fn standard_of(filing: &Filing) -> Result<u16, Refusal> {
         edition,
         ..
     } = filing;
-    require(standard(set, usage, year).is_some(), Refusal::NoStandard)?;
-    named_standard(edition, set, usage, year).ok_or(Refusal::NoEdition)
+    let ordinary = table.standard(set, usage, year);
+    require(ordinary.is_some(), Refusal::NoStandard)?;
+    let named = table.named_standard(edition, set, usage, year);
+    named.ok_or(Refusal::NoEdition)
 }
 
 fn close(book: &mut Book, year: u64) -> Answer {

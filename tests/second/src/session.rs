@@ -4,6 +4,7 @@ use crate::audit::{Audit, Violation};
 use crate::book::Book;
 use crate::listing::list;
 use crate::postings::{post, Answer, Call, Refusal};
+use crate::standards::Table;
 use crate::text::{parse, Answered, Lines};
 use std::fmt;
 use std::io::{self, Write};
@@ -36,13 +37,15 @@ pub struct Session<W> {
 }
 
 impl<W: Write> Session<W> {
-    /// Begins with a fresh book; `audited` sessions also keep the accounts
-    /// and hold the paper's claims at every call.
-    pub fn new(out: W, audited: bool) -> Self {
+    /// Begins with a fresh book, and hands this table to every filing and
+    /// amendment; `audited` sessions also keep the accounts and hold the paper's
+    /// claims at every call.
+    pub fn new(out: W, table: Table, audited: bool) -> Self {
         Session {
             lines: Lines::default(),
             terminal: Terminal {
                 book: Book::fresh(),
+                table,
                 watch: audited.then(Watch::default),
                 line: 0,
                 out,
@@ -67,6 +70,7 @@ impl<W: Write> Session<W> {
 
 struct Terminal<W> {
     book: Book,
+    table: Table,
     watch: Option<Watch>,
     line: u64,
     out: W,
@@ -85,11 +89,11 @@ impl<W: Write> Terminal<W> {
 
     fn post(&mut self, call: &Call) -> Result<Answer, Halt> {
         let Some(watch) = &mut self.watch else {
-            return Ok(post(&mut self.book, call));
+            return Ok(post(&mut self.book, &self.table, call));
         };
         let line = self.line;
         watch
-            .post(&mut self.book, call)
+            .post(&mut self.book, &self.table, call)
             .map_err(|Violation(claim)| Halt::Violation { line, claim })
     }
 
@@ -115,10 +119,11 @@ struct Watch {
 }
 
 impl Watch {
-    fn post(&mut self, book: &mut Book, call: &Call) -> Result<Answer, Violation> {
+    fn post(&mut self, book: &mut Book, table: &Table, call: &Call) -> Result<Answer, Violation> {
         self.before.clone_from(book);
-        let answer = post(book, call);
-        self.audit.judge(call, answer.is_ok(), &self.before, book)?;
+        let answer = post(book, table, call);
+        self.audit
+            .judge(table, call, answer.is_ok(), &self.before, book)?;
         Ok(answer)
     }
 }

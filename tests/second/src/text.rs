@@ -2,6 +2,7 @@
 
 use crate::figuring::Figures;
 use crate::postings::{Answer, Application, Call, Filing, Results, Retirement, Trade};
+use crate::standards::{Row, COLUMNS};
 use std::fmt;
 
 /// Bytes a line may have before its line feed.
@@ -10,12 +11,23 @@ const DIGITS_LIMIT: usize = 12;
 
 /// The call a line spells, if it is exactly one of the forms.
 pub fn parse(line: &[u8]) -> Option<Call> {
+    whole(line, Reader::call)
+}
+
+/// The year and the row of a line of a table, if it is exactly of that form,
+/// such as `(std 2014 0 600 600 567 502 475)`.
+pub fn parse_row(line: &[u8]) -> Option<(u64, Row)> {
+    whole(line, Reader::row)
+}
+
+/// What is read of a line that has at most its bytes and nothing more.
+fn whole<'a, T>(line: &'a [u8], read: fn(&mut Reader<'a>) -> Option<T>) -> Option<T> {
     if line.len() > LINE_LIMIT {
         return None;
     }
     let mut reader = Reader { rest: line };
-    let call = reader.call()?;
-    reader.rest.is_empty().then_some(call)
+    let found = read(&mut reader)?;
+    reader.rest.is_empty().then_some(found)
 }
 
 /// What is still to be read of a line.
@@ -44,6 +56,22 @@ impl Reader<'_> {
         };
         self.take(b")")?;
         Some(call)
+    }
+
+    fn row(&mut self) -> Option<(u64, Row)> {
+        self.take(b"(std")?;
+        let year = self.next_number()?;
+        let mut row = [0; COLUMNS];
+        for entry in &mut row {
+            *entry = self.next_number()?;
+        }
+        self.take(b")")?;
+        Some((year, row))
+    }
+
+    fn next_number(&mut self) -> Option<u64> {
+        self.take(b" ")?;
+        self.number()
     }
 
     // Struct fields are read in the order they are written here.
@@ -98,8 +126,7 @@ impl Reader<'_> {
     fn field(&mut self, name: &[u8]) -> Option<u64> {
         self.take(b" (")?;
         self.take(name)?;
-        self.take(b" ")?;
-        let number = self.number()?;
+        let number = self.next_number()?;
         self.take(b")")?;
         Some(number)
     }

@@ -6,7 +6,7 @@ mod common;
 use common::*;
 use second::book::{cell, Book};
 use second::figuring::Part;
-use second::postings::{post, Call, Filing};
+use second::postings::{Call, Filing};
 
 /// The number of the refusal, which must leave the book as it was.
 fn amend_refused(book: &Book, amended: Filing) -> u8 {

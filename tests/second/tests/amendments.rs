@@ -8,7 +8,7 @@ use common::*;
 use second::book::{cell, Book};
 use second::figuring::{Figures, Part};
 use second::generate::rng::Rng;
-use second::postings::{post, Call, Filing, Refusal};
+use second::postings::{Call, Filing, Refusal};
 use std::collections::BTreeSet;
 
 #[test]

@@ -9,7 +9,7 @@ use second::audit::{Audit, Violation};
 use second::book::Book;
 use second::figuring::{Figures, Mg, Part};
 use second::generate::{session, Kind};
-use second::postings::{post, Answer, Call, Filing, Refusal};
+use second::postings::{Answer, Call, Filing, Refusal};
 use second::text::{parse, Lines};
 use std::convert::Infallible;
 
@@ -28,7 +28,7 @@ fn begun() -> (Audit, Book) {
         let before = book.clone();
         post(&mut book, &call(line)).expect("accepted");
         audit
-            .judge(&call(line), true, &before, &book)
+            .judge(&BUILT_IN, &call(line), true, &before, &book)
             .expect("holds");
     }
     audit.hold_all(&book).expect("holds");
@@ -42,19 +42,21 @@ fn a_close_that_moves_nothing_is_noticed() {
     let before = book.clone();
     post(&mut book, &call(FILE)).expect("accepted");
     audit
-        .judge(&call(FILE), true, &before, &book)
+        .judge(&BUILT_IN, &call(FILE), true, &before, &book)
         .expect("holds");
     let before = book.clone();
     let mut after = Book::fresh();
     after.open_year = 2015;
-    assert!(audit.judge(&call(CLOSE), true, &before, &after).is_err());
+    assert!(audit
+        .judge(&BUILT_IN, &call(CLOSE), true, &before, &after)
+        .is_err());
 }
 
 #[test]
 fn a_trade_that_moves_nothing_is_noticed() {
     let (mut audit, book) = begun();
     let trade = call("(trade (from 0) (to 1) (set 3) (vintage 2014) (mg 1))");
-    assert!(audit.judge(&trade, true, &book, &book).is_err());
+    assert!(audit.judge(&BUILT_IN, &trade, true, &book, &book).is_err());
 }
 
 #[test]
@@ -63,7 +65,7 @@ fn an_application_to_no_shortage_is_noticed() {
     let mut after = book.clone();
     after.lots[3][0] = Mg(100);
     let apply = call("(apply (maker 0) (set 3) (vintage 2014) (year 2014) (mg 1))");
-    assert!(audit.judge(&apply, true, &book, &after).is_err());
+    assert!(audit.judge(&BUILT_IN, &apply, true, &book, &after).is_err());
 }
 
 #[test]
@@ -72,8 +74,10 @@ fn a_refusal_that_changes_the_book_is_noticed() {
     let mut after = book.clone();
     after.marks[31] = 1;
     let close = call("(close (year 2014))");
-    assert!(audit.judge(&close, false, &book, &after).is_err());
-    assert!(audit.judge(&close, false, &book, &book).is_ok());
+    assert!(audit
+        .judge(&BUILT_IN, &close, false, &book, &after)
+        .is_err());
+    assert!(audit.judge(&BUILT_IN, &close, false, &book, &book).is_ok());
 }
 
 #[test]
@@ -82,7 +86,7 @@ fn an_unsound_book_after_a_posting_is_noticed() {
     let mut after = book.clone();
     after.parts[31][0] = Part(1);
     let file = call("(file (maker 7) (set 3) (year 2015) (use 0) (edition 0) (family 0) (fcl 566) (cf 1) (volume 1) (life 1))");
-    assert!(audit.judge(&file, true, &book, &after).is_err());
+    assert!(audit.judge(&BUILT_IN, &file, true, &book, &after).is_err());
 }
 
 #[test]
@@ -106,7 +110,7 @@ fn an_accepted_call_outside_the_accounts_is_noticed() {
         "(amend (maker 0) (set 3) (year 2015) (use 0) (edition 0) (family 0) (fcl 0) (cf 1) (volume 1) (life 1))",
         "(amend (maker 0) (set 3) (year 2015) (use 0) (edition 1) (family 0) (fcl 1) (cf 1) (volume 1) (life 1))",
     ] {
-        assert!(audit.judge(&call(line), true, &book, &book).is_err(), "{line}");
+        assert!(audit.judge(&BUILT_IN, &call(line), true, &book, &book).is_err(), "{line}");
     }
 }
 
@@ -116,11 +120,11 @@ fn judged_after(amended: &Book) -> Result<(), Violation> {
     let file = Call::File(plain(5, 560));
     let before = book.clone();
     post(&mut book, &file).expect("accepted");
-    audit.judge(&file, true, &before, &book)?;
-    audit.judge(&Call::Amend(plain(5, 570)), true, &book, amended)?;
+    audit.judge(&BUILT_IN, &file, true, &before, &book)?;
+    audit.judge(&BUILT_IN, &Call::Amend(plain(5, 570)), true, &book, amended)?;
     let mut after = amended.clone();
     close(&mut after).expect("accepted");
-    audit.judge(&call(CLOSE), true, amended, &after)?;
+    audit.judge(&BUILT_IN, &call(CLOSE), true, amended, &after)?;
     audit.hold_all(&after)
 }
 
@@ -165,7 +169,7 @@ fn the_accounts_count_a_family_with_its_last_accepted_figures() {
         (Call::Amend, plain(9, 500), true, -3 + 67),
         (Call::Amend, plain(5, 566), true, 1 + 67),
     ] {
-        let fed = accounts.feed(&form(filing), accepted);
+        let fed = accounts.feed(&BUILT_IN, &form(filing), accepted);
         assert_eq!((fed, sum(&accounts)), (Ok(()), mg(total)), "{filing:?}");
     }
     // Nothing of it is another year's, set's or maker's.
@@ -173,7 +177,9 @@ fn the_accounts_count_a_family_with_its_last_accepted_figures() {
         let other = accounts.account(maker, set, year);
         assert_eq!(other, Ok(&Account::default()));
     }
-    accounts.feed(&call(CLOSE), true).expect("in place");
+    accounts
+        .feed(&BUILT_IN, &call(CLOSE), true)
+        .expect("in place");
     assert_eq!(accounts.account(0, 3, 2014).map(Account::lot), Ok(68));
 }
 

@@ -8,7 +8,7 @@ use second::accounts::Accounts;
 use second::audit::Audit;
 use second::book::{cell, Book};
 use second::figuring::Figures;
-use second::postings::{post, Answer, Call, Filing, Results};
+use second::postings::{Answer, Call, Filing, Results};
 use second::text::parse;
 
 /// A filing of maker 0 whose part is the standard less 1.
@@ -109,7 +109,7 @@ fn every_edition_set_use_and_year() {
 fn the_accounts_take_the_named_standard() {
     each_answer(|filing, answer| {
         let mut accounts = Accounts::default();
-        let fed = accounts.feed(&Call::File(filing), true);
+        let fed = accounts.feed(&BUILT_IN, &Call::File(filing), true);
         assert_eq!(fed.is_ok(), answer > 17, "{filing:?}");
         if let Ok(account) = accounts.account(0, filing.set, filing.year) {
             let part = if fed.is_ok() { answer - 1 } else { 0 };
@@ -294,10 +294,12 @@ fn a_balance_under_another_standard_is_noticed() {
             let (mut audit, mut book) = (Audit::default(), book(2025, &[], &[]));
             let before = book.clone();
             post(&mut book, &other).expect("accepted");
-            audit.judge(&named, true, &before, &book).expect("holds");
+            audit
+                .judge(&BUILT_IN, &named, true, &before, &book)
+                .expect("holds");
             let before = book.clone();
             close(&mut book).expect("accepted");
-            let judged = audit.judge(&Call::Close { year: 2025 }, true, &before, &book);
+            let judged = audit.judge(&BUILT_IN, &Call::Close { year: 2025 }, true, &before, &book);
             let same = each[told as usize] == each[booked as usize];
             assert_eq!(judged.is_ok(), same, "{told} {booked}");
         }

@@ -1,6 +1,6 @@
-//! The same filings and amendments of a year in another order: equal books, and
-//! each gets the same part or the same refusal. No two name the same maker, set
-//! and number, or those that do keep their order.
+//! The same filings and amendments of a year in another order, under one table:
+//! equal books, and each gets the same part or the same refusal. No two name the
+//! same maker, set and number, or those that do keep their order.
 
 mod common;
 
@@ -9,9 +9,11 @@ use common::*;
 use second::book::{Book, CELLS};
 use second::figuring::Part;
 use second::generate::rng::Rng;
+use second::generate::tables::{accepted, changed};
 use second::generate::{session, Kind};
 use second::listing::list;
-use second::postings::{post, Answer, Call, Refusal, Results};
+use second::postings::{post as post_under, Answer, Call, Refusal, Results};
+use second::standards::Table;
 use std::collections::{BTreeMap, BTreeSet, VecDeque};
 
 type Name = (u64, u64, u64);
@@ -42,10 +44,10 @@ fn part_or_refusal(answer: Answer) -> Result<Part, Refusal> {
 }
 
 /// The calls put to a book in turn: the book after them, and what each gets.
-fn put(book: &Book, calls: &[Call]) -> (Book, Gets) {
+fn put(book: &Book, table: &Table, calls: &[Call]) -> (Book, Gets) {
     let mut after = book.clone();
     let gets = calls.iter().map(|call| {
-        let answer = post(&mut after, call);
+        let answer = post_under(&mut after, table, call);
         (name(call), part_or_refusal(answer))
     });
     let gets = gets.collect();
@@ -81,6 +83,15 @@ fn any_calls(rng: &mut Rng, book: &Book, turn: u64, year: u64, narrow: bool) -> 
     no_two_alike(calls.collect())
 }
 
+/// The built-in table, or any other; seldom one that is not accepted.
+fn any_table(rng: &mut Rng) -> Table {
+    match rng.below(12) {
+        0..=5 => Table::built_in(),
+        6 => changed(rng),
+        _ => accepted(rng),
+    }
+}
+
 #[test]
 fn two_orders_of_any_calls_give_one_book() {
     let mut rng = Rng::new(1);
@@ -95,8 +106,9 @@ fn two_orders_of_any_calls_give_one_book() {
         if turn % 3 > 0 {
             fill(&mut book, &mut rng, narrow);
         }
+        let table = any_table(&mut rng);
         let mut calls = any_calls(&mut rng, &book, turn, year, narrow);
-        let (after, gets) = put(&book, &calls);
+        let (after, gets) = put(&book, &table, &calls);
         for call in &calls {
             let kind = match gets[&name(call)] {
                 Ok(part) => Ok(part.0.signum()),
@@ -106,13 +118,13 @@ fn two_orders_of_any_calls_give_one_book() {
             if let (Ok(_), Call::File(c) | Call::Amend(c)) = (kind, call) {
                 editions.insert((is_amendment(call), c.edition));
             }
-            let (_, alone) = put(&book, std::slice::from_ref(call));
+            let (_, alone) = put(&book, &table, std::slice::from_ref(call));
             assert_eq!(gets[&name(call)], alone[&name(call)]);
         }
         most = most.max((0..CELLS).map(|cell| after.filed(cell)).max().unwrap_or(0));
         for _ in 0..3 {
             shuffle(&mut rng, &mut calls);
-            let (mut other, others) = put(&book, &calls);
+            let (mut other, others) = put(&book, &table, &calls);
             assert!(other == after, "another book");
             assert_eq!(others, gets);
             let mut after = after.clone();
@@ -122,7 +134,7 @@ fn two_orders_of_any_calls_give_one_book() {
     }
     // Of both: parts below 0, of 0 and above, every refusal, every edition.
     for (amendment, last) in [(false, 9), (true, 18)] {
-        let refusals = (2..=8).chain([17, last]).map(Err);
+        let refusals = (2..=8).chain([17, last, 20]).map(Err);
         for wanted in [-1, 0, 1].map(Ok).into_iter().chain(refusals) {
             let wanted = (amendment, wanted);
             assert!(reached.contains(&wanted), "{wanted:?} was never given");
@@ -248,9 +260,10 @@ fn two_calls_of_one_family_are_told_apart() {
         (&begun, [Call::Amend(one), Call::Amend(other)]),
     ] {
         let [first, second] = pair;
-        let orders = [put(book, &[first, second]), put(book, &[second, first])];
+        let orders = [[first, second], [second, first]];
+        let orders = orders.map(|calls| put(book, &BUILT_IN, &calls));
         assert!(orders[0].0 != orders[1].0, "{first} {second}");
     }
-    let (_, gets) = put(&fresh, &[Call::File(one), Call::File(other)]);
+    let (_, gets) = put(&fresh, &BUILT_IN, &[Call::File(one), Call::File(other)]);
     assert_eq!(gets[&(0, 3, 5)], Err(Refusal::AlreadyFiled));
 }

@@ -7,15 +7,15 @@ use common::*;
 use second::book::{Book, PART_LIMIT};
 use second::figuring::{part, rounded, Figures, Part};
 use second::generate::rng::Rng;
-use second::postings::{post, Answer, Call, Filing};
+use second::postings::{Answer, Call, Filing};
 use std::collections::BTreeMap;
 
 /// Heavy vocational engines, 2014.
-const STANDARD: u16 = 567;
+const STANDARD: u64 = 567;
 
 /// A part before card 4, in units of 10^-7 Mg: CF counted ten-thousandths, 1 to
 /// 100,000. None where a figure is outside its limits.
-fn old_part(standard: u16, old: &Figures) -> Option<i128> {
+fn old_part(standard: u64, old: &Figures) -> Option<i128> {
     let figures = [old.fcl, old.cf, old.volume, old.life];
     let limits = [1_200, 100_000, 100_000, 500];
     let mut each = figures.iter().zip(limits);
@@ -64,7 +64,7 @@ fn restated_families_have_ten_times_the_part_or_none() {
             volume: figure(&mut rng, 100_000),
             life: figure(&mut rng, 500),
         };
-        let standard = rng.between(432, 627) as u16;
+        let standard = rng.between(432, 769);
         let ten_times = old_part(standard, &old).map(|part| 10 * part);
         let found = part(standard, &restated(&old)).map(|part| i128::from(part.0));
         assert_eq!(found, ten_times, "{standard} {old:?}");
@@ -186,7 +186,7 @@ fn one_family_beside_a_half() {
     ] {
         for sign in [1, -1] {
             let family = Figures {
-                fcl: (i64::from(STANDARD) - sign) as u64,
+                fcl: (STANDARD as i64 - sign) as u64,
                 cf,
                 volume,
                 life: 1,

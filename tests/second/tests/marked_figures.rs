@@ -5,9 +5,7 @@ mod common;
 
 use common::*;
 use second::book::Book;
-use second::figuring::{
-    is_expired, is_live, is_open, is_overdue, part, rounded, standard, Figures, Part,
-};
+use second::figuring::{is_expired, is_live, is_open, is_overdue, part, rounded, Figures, Part};
 use second::text::parse;
 
 const RUN: &str = "\
@@ -55,14 +53,14 @@ fn lines_of_the_run_read_back_as_written() {
 
 #[test]
 fn p1_spark_ignition() {
-    assert_eq!(standard(0, 0, 2015), None);
-    assert_eq!(standard(0, 0, 2016), Some(627));
+    assert_eq!(BUILT_IN.standard(0, 0, 2015), None);
+    assert_eq!(BUILT_IN.standard(0, 0, 2016), Some(627));
 }
 
 #[test]
 fn p2_heavy_tractor() {
     let years = [2016, 2017, 2026, 2027];
-    let standards = years.map(|year| standard(3, 1, year));
+    let standards = years.map(|year| BUILT_IN.standard(3, 1, year));
     assert_eq!(standards, [475, 460, 436, 432].map(Some));
 }
 
@@ -159,14 +157,15 @@ fn every_standard_of_the_table() {
     ];
     for (years, standards) in rows {
         for year in years {
-            let found = columns.map(|(set, usage)| standard(set, usage, year));
+            let found = columns.map(|(set, usage)| BUILT_IN.standard(set, usage, year));
             assert_eq!(found, standards.map(Some), "{year}");
-            assert_eq!(standard(0, 0, year), (year >= 2016).then_some(627));
+            assert_eq!(BUILT_IN.standard(0, 0, year), (year >= 2016).then_some(627));
             for (set, usage) in [(0, 1), (1, 1), (2, 2), (3, 2), (4, 0), (u64::MAX, 0)] {
-                assert_eq!(standard(set, usage, year), None);
+                assert_eq!(BUILT_IN.standard(set, usage, year), None);
             }
         }
     }
-    assert_eq!(standard(3, 0, 2013), None);
-    assert_eq!(standard(3, 0, 0), None);
+    for year in [0, 2013, 2038, u64::MAX] {
+        assert_eq!(BUILT_IN.standard(3, 0, year), None);
+    }
 }

@@ -69,9 +69,8 @@ fn figures_outside_their_limits_have_no_part() {
         life: 500,
     };
     assert_eq!(part(627, &within), Some(Part(31_300_000_000_000_000)));
-    // A standard of any 16 bits leaves the part within 64.
-    let largest = 3_276_700_000_000_000_000;
-    assert_eq!(part(u16::MAX, &within), Some(Part(largest)));
+    // Under the greatest standard, the largest part that is sound.
+    assert_eq!(part(769, &within), Some(Part(38_400_000_000_000_000)));
     let edges = [
         Figures { fcl: 0, ..within },
         Figures {

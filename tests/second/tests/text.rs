@@ -4,7 +4,7 @@ mod common;
 
 use common::*;
 use second::figuring::{Figures, MAX_CF, MAX_FCL, MAX_LIFE, MAX_VOLUME};
-use second::postings::{post, Call, Filing};
+use second::postings::{Call, Filing};
 use second::text::{parse, LINE_LIMIT};
 
 fn is_form(line: &str) -> bool {
@@ -67,6 +67,7 @@ fn near_forms_are_no_forms() {
         "(close (years 1))",
         "(close (vintage 1))",
         "(fresh)",
+        "(std 2014 0 600 600 567 502 475)",
         "(retire (set 0) (maker 0) (vintage 0) (mg 0))",
         "(retire (maker 0) (set 0) (vintage 0))",
         "(retire (maker 0)(set 0) (vintage 0) (mg 0))",

@@ -13,10 +13,10 @@ use Rattle.credit_book.proofs.read_all.Statement.{statement}
 use Rattle.credit_book.proofs.read_all.Tie as tie
 
 abbrev Inv-loop : tie.InvT-loop
-Inv-loop out₀ desk₀ turns₀ more₀ fine₀ out desk turns more fine = SoFar out₀ out desk turns more fine
+Inv-loop table out₀ desk₀ turns₀ more₀ fine₀ out desk turns more fine = SoFar table out₀ out desk turns more fine
 
 abbrev μ-loop : tie.MeasureT-loop
-μ-loop out₀ desk₀ turns₀ more₀ fine₀ out desk turns more fine = mostTurns - turns
+μ-loop table out₀ desk₀ turns₀ more₀ fine₀ out desk turns more fine = mostTurns - turns
 
 open-desk-requires : tie.Need-open-desk-requires Inv-loop μ-loop
 open-desk-requires c κs = search needs

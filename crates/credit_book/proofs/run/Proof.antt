@@ -27,7 +27,7 @@ returns c =
       read = read;
       closes = λ _. c .before .before .close .ensures;
       unclosed = λ f. absurd (true≢false (sym e ∙ f));
-      whole = whole-run _ _ _ _ (read .reading);
+      whole = whole-run _ _ _ _ _ (read .reading);
     }
 
 unwritten-requires : tie.Need-unwritten-requires
@@ -44,7 +44,7 @@ returns-2 c =
       read = read;
       closes = λ t. absurd (true≢false (sym t ∙ e));
       unclosed = λ _. (c .unwritten .ensures, c .unwritten .ensures);
-      whole = whole-run _ _ _ _ (read .reading);
+      whole = whole-run _ _ _ _ _ (read .reading);
     }
 
 pub run-spec : {M : Type 1} → statement M

@@ -1,7 +1,10 @@
 //! `bench PROGRAM`: wall-clock times of PROGRAM and of `second --no-accounts`
-//! on the same inputs, best of five, the two in turn.
+//! on the same inputs, best of five, the two in turn, with the built-in
+//! standards. Then what of a call of PROGRAM's is its head: for a trade, and
+//! for a filing, which also has its table checked.
 
 use second::generate::{session, Kind};
+use second::room::Room;
 use std::ffi::OsStr;
 use std::fs::File;
 use std::io;
@@ -16,6 +19,13 @@ const INPUTS: [(&str, Kind); 3] = [
     ("one year", Kind::Single),
     ("full", Kind::Full),
 ];
+
+/// Lines of which PROGRAM asks the head alone, since the maker is none; with
+/// another last byte they are read as far, and not posted.
+const FILING: &str = "(file (maker 8) (set 3) (year 2014) (use 1) (edition 0) (family 0) \
+                      (fcl 465) (cf 280000) (volume 1000) (life 435))";
+const TRADE: &str = "(trade (from 8) (to 1) (set 3) (vintage 2014) (mg 200))";
+const HEADS: usize = 100_000;
 
 fn main() -> ExitCode {
     let mut arguments = std::env::args_os().skip(1);
@@ -34,6 +44,8 @@ fn main() -> ExitCode {
 
 fn bench(program: &OsStr) -> io::Result<()> {
     let second = beside_this("second")?;
+    // No std.txt lies there.
+    let room = Room::new()?;
     println!(
         "{:<14} {:>7} {:>11} {:>11} {:>13} {:>13} {:>15}",
         "input", "lines", "program s", "second s", "program l/s", "second l/s", "program/second"
@@ -41,9 +53,9 @@ fn bench(program: &OsStr) -> io::Result<()> {
     for (name, kind) in INPUTS {
         let text = session(kind, SEED, kind.usual_lines());
         let lines = text.iter().filter(|&&byte| byte == b'\n').count();
-        let input = Input::write(&text)?;
-        let mut program = Command::new(program);
-        let mut second = Command::new(&second);
+        let input = room.write("input", &text)?;
+        let mut program = room.command(program)?;
+        let mut second = room.command(second.as_os_str())?;
         second.arg("--no-accounts");
         same_output(&mut program, &mut second, &input)?;
         let (program, second) = best_times(&mut program, &mut second, &input)?;
@@ -57,7 +69,38 @@ fn bench(program: &OsStr) -> io::Result<()> {
         );
     }
     println!("best of {RUNS}; program/second is the ratio of the times");
+    let trade = head_of(program, TRADE, &room)?;
+    let filing = head_of(program, FILING, &room)?;
+    println!(
+        "the soundness walk, with the copies of the book: {trade:.3} us a call; \
+         the check of a filing's table: {:.3} us, {:.2} of it",
+        filing - trade,
+        (filing - trade) / trade
+    );
     Ok(())
+}
+
+/// Microseconds of what comes between reading a line and its own refusals.
+fn head_of(program: &OsStr, line: &str, room: &Room) -> io::Result<f64> {
+    let posted = repeated(line);
+    let unposted = repeated(&format!("{}]", &line[..line.len() - 1]));
+    let posted = best_time(program, &posted, room)?;
+    let unposted = best_time(program, &unposted, room)?;
+    Ok((posted.as_secs_f64() - unposted.as_secs_f64()) * 1e6 / HEADS as f64)
+}
+
+fn repeated(line: &str) -> Vec<u8> {
+    format!("{line}\n").repeat(HEADS).into_bytes()
+}
+
+fn best_time(program: &OsStr, text: &[u8], room: &Room) -> io::Result<Duration> {
+    let input = room.write("input", text)?;
+    let mut command = room.command(program)?;
+    let mut best = Duration::MAX;
+    for _ in 0..RUNS {
+        best = best.min(time(&mut command, &input)?);
+    }
+    Ok(best)
 }
 
 fn beside_this(name: &str) -> io::Result<PathBuf> {
@@ -66,30 +109,8 @@ fn beside_this(name: &str) -> io::Result<PathBuf> {
     Ok(path)
 }
 
-/// An input in a file of its own, removed at the end.
-struct Input(PathBuf);
-
-impl Input {
-    fn write(text: &[u8]) -> io::Result<Self> {
-        let name = format!("second-bench-{}.txt", std::process::id());
-        let input = Input(std::env::temp_dir().join(name));
-        std::fs::write(input.path(), text)?;
-        Ok(input)
-    }
-
-    fn path(&self) -> &Path {
-        &self.0
-    }
-}
-
-impl Drop for Input {
-    fn drop(&mut self) {
-        let _ = std::fs::remove_file(&self.0);
-    }
-}
-
 /// The untimed first run: times are told of equal work only.
-fn same_output(program: &mut Command, second: &mut Command, input: &Input) -> io::Result<()> {
+fn same_output(program: &mut Command, second: &mut Command, input: &Path) -> io::Result<()> {
     if output(program, input)? == output(second, input)? {
         Ok(())
     } else {
@@ -97,9 +118,9 @@ fn same_output(program: &mut Command, second: &mut Command, input: &Input) -> io
     }
 }
 
-fn output(command: &mut Command, input: &Input) -> io::Result<Vec<u8>> {
+fn output(command: &mut Command, input: &Path) -> io::Result<Vec<u8>> {
     let out = command
-        .stdin(File::open(input.path())?)
+        .stdin(File::open(input)?)
         .stdout(Stdio::piped())
         .output()?;
     Ok(out.stdout)
@@ -108,7 +129,7 @@ fn output(command: &mut Command, input: &Input) -> io::Result<Vec<u8>> {
 fn best_times(
     program: &mut Command,
     second: &mut Command,
-    input: &Input,
+    input: &Path,
 ) -> io::Result<(Duration, Duration)> {
     let mut best = (Duration::MAX, Duration::MAX);
     for _ in 0..RUNS {
@@ -118,10 +139,8 @@ fn best_times(
     Ok(best)
 }
 
-fn time(command: &mut Command, input: &Input) -> io::Result<Duration> {
-    command
-        .stdin(File::open(input.path())?)
-        .stdout(Stdio::null());
+fn time(command: &mut Command, input: &Path) -> io::Result<Duration> {
+    command.stdin(File::open(input)?).stdout(Stdio::null());
     let begun = Instant::now();
     let status = command.status()?;
     let taken = begun.elapsed();

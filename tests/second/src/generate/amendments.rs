@@ -4,7 +4,7 @@ use super::bent::Bent;
 use super::full::at_the_limits;
 use super::Script;
 use crate::book::{FAMILIES, MAKERS, SETS};
-use crate::figuring::{named_standard, MAX_CF, MAX_FCL, MAX_LIFE, MAX_VOLUME};
+use crate::figuring::{MAX_CF, MAX_FCL, MAX_LIFE, MAX_VOLUME};
 use crate::postings::{Call, Filing};
 
 /// The form in which a family's figures are sent: a filing or an amendment.
@@ -112,7 +112,7 @@ impl Script {
     /// nothing.
     fn amended(&mut self, filed: Filing) -> Filing {
         let mut amended = filed;
-        let (standard, level) = (standard_of(&filed), filed.figures.fcl);
+        let (standard, level) = (self.standard_of(&filed), filed.figures.fcl);
         match self.rng.below(18) {
             0..=5 => amended.figures.fcl = (level + self.rng.between(1, 20)).min(MAX_FCL),
             6 | 7 => amended.figures.fcl = level.saturating_sub(self.rng.between(1, 20)).max(1),
@@ -215,7 +215,7 @@ impl Script {
             return;
         };
         let mut nothing = filed;
-        nothing.figures.fcl = standard_of(&filed);
+        nothing.figures.fcl = self.standard_of(&filed);
         self.say(Call::Amend(nothing));
         self.say(Call::File(filed));
         if self.rng.once_in(2) {
@@ -266,8 +266,17 @@ impl Script {
             _ => near,
         }
     }
-}
 
-fn standard_of(filing: &Filing) -> u64 {
-    named_standard(filing.edition, filing.set, filing.usage, filing.year).map_or(1, u64::from)
+    /// The standard that a filing names; 1 where there is none.
+    pub(super) fn standard_of(&self, filing: &Filing) -> u64 {
+        let &Filing {
+            set,
+            year,
+            usage,
+            edition,
+            ..
+        } = filing;
+        let named = self.table.named_standard(edition, set, usage, year);
+        named.unwrap_or(1)
+    }
 }

@@ -4,8 +4,9 @@ use super::amendments::Form;
 use super::bent::Bent;
 use super::{Script, TELLING_YEARS};
 use crate::book::cell;
-use crate::figuring::{named_standard, MAX_CF};
+use crate::figuring::MAX_CF;
 use crate::postings::Filing;
+use crate::standards::alternative_standard;
 
 /// Above 2; a narrower type takes the last ones for 0, 1 or 2.
 const ABOVE: [u64; 12] = [
@@ -28,7 +29,7 @@ const PLACE: usize = 4;
 
 /// Whether a set and year have alternative standards.
 fn has_alternatives(set: u64, year: u64) -> bool {
-    named_standard(1, set, 0, year).is_some()
+    alternative_standard(1, set, 0, year).is_some()
 }
 
 /// Each edition in turn where there is more than one.

@@ -4,7 +4,7 @@ use super::editions::edition_in_turn;
 use super::years::names;
 use super::Script;
 use crate::book::{CELLS, FAMILIES};
-use crate::figuring::{named_standard, Figures, MAX_CF, MAX_FCL, MAX_LIFE, MAX_VOLUME, YEARS};
+use crate::figuring::{Figures, MAX_CF, MAX_FCL, MAX_LIFE, MAX_VOLUME, YEARS};
 use crate::postings::{Call, Filing};
 
 const POSTINGS_A_YEAR: usize = 100;
@@ -60,15 +60,15 @@ impl Script {
         };
         let usage = if set >= 2 { usage } else { 0 };
         let edition = edition_in_turn(family, set, year);
-        let Some(standard) = named_standard(edition, set, usage, year) else {
+        let Some(standard) = self.table.named_standard(edition, set, usage, year) else {
             return;
         };
         let figures = match levels {
             Levels::Lowest => at_the_limits(1),
             Levels::Highest => at_the_limits(MAX_FCL),
             Levels::Plausible => Figures {
-                fcl: (i64::from(standard) + self.leaning[cell] + self.rng.below(11) as i64 - 5)
-                    .max(1) as u64,
+                fcl: (standard as i64 + self.leaning[cell] + self.rng.below(11) as i64 - 5).max(1)
+                    as u64,
                 cf: self.rng.between(110_000, 310_000),
                 volume: self.rng.between(1, 9_000),
                 life: self.rng.pick(&[110, 150, 185, 435]).copied().unwrap_or(110),

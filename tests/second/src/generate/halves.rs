@@ -5,7 +5,7 @@ use super::years::names;
 use super::Script;
 use crate::book::{CELLS, FAMILIES};
 use crate::figuring::{
-    named_standard, Figures, ALL_CLOSED, HALF_A_MG, MAX_CF, MAX_LIFE, MAX_VOLUME, PARTS_IN_A_MG,
+    Figures, ALL_CLOSED, HALF_A_MG, MAX_CF, MAX_LIFE, MAX_VOLUME, PARTS_IN_A_MG,
 };
 use crate::postings::{Call, Filing};
 
@@ -29,7 +29,7 @@ impl Script {
         let (maker, set) = names(cell_named);
         let year = self.book.open_year;
         let edition = self.fitting_edition(set, year);
-        let standard = named_standard(edition, set, 0, year);
+        let standard = self.table.named_standard(edition, set, 0, year);
         let Some(standard) = standard.filter(|_| year != ALL_CLOSED) else {
             return;
         };
@@ -46,7 +46,7 @@ impl Script {
         };
         let missing = half + beside - over;
         let size = missing.unsigned_abs();
-        let level = i64::from(standard) - missing.signum();
+        let level = standard as i64 - missing.signum();
         let rest = size % STEP;
         // Large enough that the volume keeps its limit; what is left, less
         // than it, is the last family's CF.

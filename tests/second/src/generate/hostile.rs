@@ -55,6 +55,9 @@ impl Script {
     }
 
     fn hostile_line(&mut self) {
+        if self.standard_is_due(6) {
+            return self.standard_line();
+        }
         if self.edition_is_due() {
             return self.edition_line();
         }

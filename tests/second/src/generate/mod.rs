@@ -1,4 +1,5 @@
-//! Sessions for testing, the same ones for the same kind, seed and length.
+//! Sessions for testing, the same ones for the same kind, seed, length and
+//! table; and tables, and texts of tables.
 
 mod amendments;
 mod bent;
@@ -8,10 +9,15 @@ mod halves;
 mod hostile;
 mod refusals;
 pub mod rng;
+mod standards;
+mod std_bends;
+pub mod std_texts;
+pub mod tables;
 mod years;
 
 use crate::book::{Book, CELLS};
 use crate::postings::{post, Call};
+use crate::standards::Table;
 use crate::text::parse;
 use amendments::Families;
 use rng::Rng;
@@ -37,25 +43,29 @@ pub enum Kind {
     Bench,
     /// One year filed whole, and its close.
     Single,
+    /// Every set and use of every year, by figures that show the standard.
+    Standards,
 }
 
-const NAMES: [(&str, Kind); 6] = [
+const NAMES: [(&str, Kind); 7] = [
     ("years", Kind::Years),
     ("hostile", Kind::Hostile),
     ("mixed", Kind::Mixed),
     ("full", Kind::Full),
     ("bench", Kind::Bench),
     ("single", Kind::Single),
+    ("standards", Kind::Standards),
 ];
 
 impl Kind {
-    /// The length when none is asked for; `full` and `single` have their own.
+    /// The length when none is asked for; `full`, `single` and `standards` have
+    /// their own.
     pub fn usual_lines(self) -> usize {
         match self {
             Kind::Years => 6_000,
             Kind::Hostile | Kind::Mixed => 3_000,
             Kind::Bench => 100_000,
-            Kind::Full | Kind::Single => 0,
+            Kind::Full | Kind::Single | Kind::Standards => 0,
         }
     }
 }
@@ -76,15 +86,22 @@ impl fmt::Display for Kind {
     }
 }
 
-/// A session's whole input.
+/// A session's whole input, aimed at the built-in table.
 pub fn session(kind: Kind, seed: u64, lines: usize) -> Vec<u8> {
-    let mut script = Script::new(seed);
+    session_under(&Table::built_in(), kind, seed, lines)
+}
+
+/// A session's whole input, aimed at an accepted table. Under one of its own it
+/// also has lines at the edges of that.
+pub fn session_under(table: &Table, kind: Kind, seed: u64, lines: usize) -> Vec<u8> {
+    let mut script = Script::new(table.clone(), seed);
     match kind {
         Kind::Years | Kind::Bench => script.years(lines),
         Kind::Hostile => script.hostile(lines),
         Kind::Mixed => script.mixed(lines),
         Kind::Full => script.full(seed % 2 == 1),
         Kind::Single => script.single_year(),
+        Kind::Standards => script.every_standard(),
     }
     script.text
 }
@@ -92,6 +109,9 @@ pub fn session(kind: Kind, seed: u64, lines: usize) -> Vec<u8> {
 /// A session being written, with the book as it stands after its lines.
 struct Script {
     book: Book,
+    table: Table,
+    /// The table isn't the built-in one.
+    own_table: bool,
     rng: Rng,
     text: Vec<u8>,
     lines: usize,
@@ -103,11 +123,13 @@ struct Script {
 }
 
 impl Script {
-    fn new(seed: u64) -> Self {
+    fn new(table: Table, seed: u64) -> Self {
         let mut rng = Rng::new(seed);
         let careless = std::array::from_fn(|_| rng.once_in(16));
         let mut script = Script {
             book: Book::fresh(),
+            own_table: table != Table::built_in(),
+            table,
             rng,
             text: Vec::new(),
             lines: 0,
@@ -137,7 +159,7 @@ impl Script {
         self.text.push(b'\n');
         self.lines += 1;
         if let Some(call) = parse(line) {
-            if post(&mut self.book, &call).is_ok() {
+            if post(&mut self.book, &self.table, &call).is_ok() {
                 self.families.take(&call);
             }
         }

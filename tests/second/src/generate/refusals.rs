@@ -3,9 +3,7 @@
 use super::years::{index, names};
 use super::Script;
 use crate::book::{CELLS, MAKERS};
-use crate::figuring::{
-    named_standard, Figures, Mg, FIRST_YEAR, MAX_CF, MAX_FCL, MAX_LIFE, MAX_VOLUME,
-};
+use crate::figuring::{Figures, Mg, FIRST_YEAR, MAX_CF, MAX_FCL, MAX_LIFE, MAX_VOLUME};
 use crate::postings::{Application, Call, Filing, Retirement, Trade};
 
 impl Script {
@@ -26,11 +24,8 @@ impl Script {
         let Some(Call::File(mut filing)) = self.plausible_filing() else {
             return;
         };
-        let Filing {
-            set, year, usage, ..
-        } = filing;
-        let standard = named_standard(filing.edition, set, usage, year).unwrap_or(1);
-        filing.figures.fcl = u64::from(standard);
+        let Filing { set, year, .. } = filing;
+        filing.figures.fcl = self.standard_of(&filing);
         self.say(Call::File(filing));
         filing.figures.fcl -= 1;
         filing.edition = self.fitting_edition(set, year);

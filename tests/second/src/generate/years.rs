@@ -2,9 +2,7 @@
 
 use super::Script;
 use crate::book::{cell, CELLS, FAMILIES, MAKERS, SETS};
-use crate::figuring::{
-    is_live, is_open, named_standard, standard, Figures, Mg, ALL_CLOSED, FIRST_YEAR, YEARS,
-};
+use crate::figuring::{is_live, is_open, Figures, Mg, ALL_CLOSED, FIRST_YEAR, YEARS};
 use crate::postings::{Application, Call, Filing, Retirement, Trade};
 
 /// 24 years and the time after the last.
@@ -39,6 +37,9 @@ impl Script {
 
     /// A line as a terminal sees it on an ordinary day.
     pub(super) fn plausible_line(&mut self) {
+        if self.standard_is_due(12) {
+            return self.standard_line();
+        }
         let call = match self.rng.below(16) {
             0 | 1 => self
                 .plausible_amendment()
@@ -61,11 +62,11 @@ impl Script {
         }
         let usage = if set >= 2 { self.rng.below(2) } else { 0 };
         let edition = self.plausible_edition(set, year);
-        let standard =
-            named_standard(edition, set, usage, year).or_else(|| standard(set, usage, year))?;
+        let named = self.table.named_standard(edition, set, usage, year);
+        let standard = named.or_else(|| self.table.standard(set, usage, year))?;
         let family = self.plausible_family(cell_named)?;
         let leaning = self.leaning[cell_named];
-        let level = i64::from(standard) + leaning + self.rng.below(11) as i64 - 5;
+        let level = standard as i64 + leaning + self.rng.below(11) as i64 - 5;
         let (cf, life) = match set {
             0 => (self.rng.between(110_000, 140_000), 110),
             1 => (

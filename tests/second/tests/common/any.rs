@@ -1,10 +1,11 @@
 //! Any books in the middle of a year, any filings and any amendments.
 
+use super::{post, BUILT_IN};
 use second::book::{cell, Book, MAKERS, SETS};
-use second::figuring::{named_standard, Figures};
+use second::figuring::Figures;
 use second::generate::rng::Rng;
 use second::generate::{session, Kind};
-use second::postings::{post, Call, Filing};
+use second::postings::{Call, Filing};
 use second::text::parse;
 
 pub fn calls(input: &[u8]) -> Vec<Call> {
@@ -52,7 +53,10 @@ pub fn any_filing(rng: &mut Rng, year: u64, narrow: bool) -> Filing {
     let usage = rng.below(if odd { 3 } else { 2 });
     let edition = any_edition(rng, year, odd);
     let level = match rng.below(8) {
-        0 => named_standard(edition, 2, usage, year).map_or(1, u64::from),
+        0 => {
+            let named = BUILT_IN.named_standard(edition, 2, usage, year);
+            named.unwrap_or(1)
+        }
         _ => figure(rng, 1_200, odd),
     };
     Filing {

@@ -7,14 +7,28 @@ pub mod any;
 use second::book::{cell, Book};
 use second::figuring::{Figures, Mg, Part, PARTS_IN_A_MG};
 use second::generate::{session, Kind};
-use second::postings::{post, Answer, Call, Filing, Refusal, Results};
+use second::postings::{self, Answer, Call, Filing, Refusal, Results};
 use second::session::Session;
+use second::standards::Table;
 use second::text::parse;
 use std::ops::Range;
+use std::sync::LazyLock;
+
+pub static BUILT_IN: LazyLock<Table> = LazyLock::new(Table::built_in);
+
+/// Posts a call that is handed the built-in table.
+pub fn post(book: &mut Book, call: &Call) -> Answer {
+    postings::post(book, &BUILT_IN, call)
+}
 
 /// The whole output of an audited session, handed over in pieces.
 pub fn output_in_pieces(input: &[u8], piece: usize) -> String {
-    let mut session = Session::new(Vec::new(), true);
+    output_under(&BUILT_IN, input, piece)
+}
+
+/// The same under a table.
+pub fn output_under(table: &Table, input: &[u8], piece: usize) -> String {
+    let mut session = Session::new(Vec::new(), table.clone(), true);
     for bytes in input.chunks(piece) {
         session.feed(bytes).expect("every claim holds");
     }

@@ -1,16 +1,17 @@
 -- An accepted filing is within its limits (facts), so that the arm without a part is never reached and the part that is
 -- stored is the filing's own (figure).
 use mathlib.Core.Bool.{true}
-use mathlib.Core.List.{List}
+use mathlib.Core.List.{List, [], _∷_}
 use mathlib.Core.Path.{_≡_, sym, _∙_}
 use native.Mathlib.Omega.{arith}
 use borrow.Author.Needs.{needs}
 use lib.Count.{ones-le}
 use mir.Facts.{toZ-ofZ}
+use Rattle.figuring.specs.Tables.{acceptedTable}
 use Rattle.book.specs.Soundness.{sound}
 use Rattle.book.specs.Refusals.{Row, firstRefusal}
-use Rattle.book.specs.Rules.{headRows, ownRows, done, fileRows}
-use Rattle.book.specs.Postings.{partFor, stored}
+use Rattle.book.specs.Rules.{headRows, fitRow, ownRows, done, fileRows}
+use Rattle.book.specs.Postings.{ordinaryFor, partFor, partBeside, stored}
 use Rattle.book.specs.declared.kinds.Call.{Call}
 use Rattle.book.specs.declared.answers.Verdict.the-variants.{Accepted}
 use Rattle.book.proofs.TableLaws.{head-sound, head-refuses, own-decide}
@@ -18,33 +19,47 @@ use Rattle.book.proofs.FileFacts.{Fileable, fileable, part-is, never-ou
 use Rattle.book.proofs.filing.file.Statement.{statement}
 use Rattle.book.proofs.filing.file.Tie as tie
 
--- the head, over the book as it came
-abbrev entry : tie.After-head-verdict → tie.Start
-entry c = c .before .before .before .before .before .before .before
+-- the head, over the book as it came; before it the table is read
+abbrev entry : tie.After-filing-head → tie.Start
+entry c = c .before .before .before .before .before .before .before .before .before
+
+-- what was read in the table
+abbrev tabled : tie.After-filing-head → tie.After-ordinary-in
+tabled c = c .before .before .before .before .before .before .before
+
+fit-read : (c : tie.After-filing-head) → tabled c .before .table-accepted .result ≡ acceptedTable (entry c .args .table)
+fit-read c = tabled c .before .table-accepted .ensures
+
+ordinary-read : (c : tie.After-filing-head) → tabled c .ordinary-in .result ≡ ordinaryFor (entry c .args .table) (entry c .args .f)
+ordinary-read c = tabled c .ordinary-in .ensures
+
+abbrev beside : tie.Start → List Row
+beside s = fitRow (acceptedTable (s .args .table)) ∷ []
 
 headed :
-    (c : tie.After-head-verdict) → c .head-verdict .result ≡ firstRefusal (headRows (sound (entry c .args .book)))
-headed c = rw (← c .before .arrays-sound .ensures) (c .head-verdict .ensures)
+    (c : tie.After-filing-head)
+    → c .filing-head .result ≡ firstRefusal (headRows (sound (entry c .args .book)) (beside (entry c)))
+headed c = rw (← c .before .arrays-sound .ensures, ← fit-read c) (c .filing-head .ensures)
 
 -- where the head has passed, the book is sound
 abbrev start : tie.After-enum-told → tie.Start
 start c = entry (c .before .before)
 
-passed-head : (c : tie.After-enum-told) → firstRefusal (headRows (sound (start c .args .book))) ≡ Accepted
+passed-head : (c : tie.After-enum-told) → firstRefusal (headRows (sound (start c .args .book)) (beside (start c))) ≡ Accepted
 passed-head c = sym (headed (c .before .before)) ∙ c .enum-told .given .1
 
 book-sound : (c : tie.After-enum-told) → sound (start c .args .book) ≡ true
-book-sound c = head-sound _ (passed-head c)
+book-sound c = head-sound _ _ (passed-head c)
 
 -- the call's own rows
 abbrev passed : tie.After-file-verdict → tie.After-enum-told
 passed c = c .before .before .before
 
 abbrev own : tie.Start → List Row
-own s = fileRows (s .args .book .«open_year») (s .args .book .marks) (s .args .f)
+own s = fileRows (ordinaryFor (s .args .table) (s .args .f)) (s .args .book .«open_year») (s .args .book .marks) (s .args .f)
 
 said : (c : tie.After-file-verdict) → c .file-verdict .result ≡ firstRefusal (own (start (passed c)))
-said c = c .file-verdict .ensures
+said c = rw (← ordinary-read (passed c .before .before)) (c .file-verdict .ensures)
 
 -- where they have passed too, the call is accepted
 abbrev taken : tie.After-enum-told2 → tie.After-enum-told
@@ -53,15 +68,17 @@ taken c = passed (c .before .before)
 accepted : (c : tie.After-enum-told2) → firstRefusal (own (start (taken c))) ≡ Accepted
 accepted c = sym (said (c .before .before)) ∙ c .enum-told2 .given .1
 
-facts : (c : tie.After-enum-told2) → Fileable (start (taken c) .args .book) (start (taken c) .args .f)
-facts c = fileable _ _ (book-sound (taken c)) (accepted c)
+facts : (c : tie.After-enum-told2) → Fileable (start (taken c) .args .table) (start (taken c) .args .book) (start (taken c) .args .f)
+facts c = fileable _ _ _ (book-sound (taken c)) (accepted c)
 
 abbrev part-taken : tie.After-part → tie.After-enum-told2
 part-taken c = c .before .before .before
 
-figure : (c : tie.After-part) → c .part .given .0 .0 .0 ≡ partFor (start (taken (part-taken c)) .args .f)
-unfolding partFor
-figure c = part-is _ _ _ _ _ (facts (part-taken c) .limits) (c .before .before .part-of .ensures) (c .part .given .1)
+figure : (c : tie.After-part) → c .part .given .0 .0 .0 ≡ partFor (start (taken (part-taken c)) .args .table) (start (taken (part-taken c)) .args .f)
+unfolding partBeside
+figure c =
+    rw (← ordinary-read (taken (part-taken c) .before .before))
+    (part-is _ _ _ _ _ (facts (part-taken c) .limits) (c .before .before .part-of .ensures) (c .part .given .1))
 
 -- the arm that stores the part, where its cell is figured and where it is written
 abbrev at-cell : tie.After-struct-known2 → tie.After-enum-told2
@@ -70,11 +87,17 @@ at-cell c = part-taken (c .before .before .before)
 abbrev storing : tie.After-struct-told → tie.After-enum-told2
 storing c = at-cell (c .before .before .before)
 
+table-accepted-requires : tie.Need-table-accepted-requires
+table-accepted-requires c κs = search needs
+
+ordinary-in-requires : tie.Need-ordinary-in-requires
+ordinary-in-requires c κs = search needs
+
 arrays-sound-requires : tie.Need-arrays-sound-requires
 arrays-sound-requires c κs = search needs
 
-head-verdict-requires : tie.Need-head-verdict-requires
-head-verdict-requires c κs = search needs
+filing-head-requires : tie.Need-filing-head-requires
+filing-head-requires c κs = search needs
 
 enum-known-head : tie.Need-enum-known-head
 enum-known-head c = search needs
@@ -143,13 +166,13 @@ cast-count c =
     )
 
 returns : tie.Need-returns
-returns c = sym (head-refuses _ _ (sym (headed (c .before .before .before)) ∙ c .before .head .given .1))
+returns c = sym (head-refuses _ _ _ (sym (headed (c .before .before .before)) ∙ c .before .head .given .1))
 
 returns-2 : tie.Need-returns-2
 unfolding ownRows
 returns-2 c =
     let w = c .before .before .before in
-    sym (own-decide _ (Call.File _) (passed-head (passed w)) (sym (said w) ∙ c .before .why .given .1))
+    sym (own-decide _ _ (Call.File _) (passed-head (passed w)) (sym (said w) ∙ c .before .why .given .1))
 
 returns-3 : tie.Need-returns-3
 returns-3 c =
@@ -165,14 +188,16 @@ returns-4 c =
       toZ-ofZ (record { sfits = c .struct-told .given .0 .1 }),
       figure (c .before .before .before .before .before .before),
     )
-    (sym (own-decide _ (Call.File _) (passed-head (taken (storing c))) (accepted (storing c))))
+    (sym (own-decide _ _ (Call.File _) (passed-head (taken (storing c))) (accepted (storing c))))
 
 pub file-spec : {M : Type 1} → statement M
 file-spec =
     tie.close
     (tie.spec
+    table-accepted-requires
+    ordinary-in-requires
     arrays-sound-requires
-    head-verdict-requires
+    filing-head-requires
     enum-known-head
     enum-told
     file-verdict-requires

@@ -11,7 +11,7 @@ use Rattle.book.proofs.filing.file_verdict.Tie as tie
 
 -- the rows at the function's entry
 abbrev rows : tie.Start → List Row
-rows s = fileRows (s .args .open-year) (s .args .marks .now) (s .args .f)
+rows s = fileRows (s .args .ordinary) (s .args .open-year) (s .args .marks .now) (s .args .f)
 
 abbrev start-1 : tie.Else1 → tie.Start
 start-1 c = c .before .before
@@ -26,7 +26,7 @@ abbrev start-4 : tie.Else4 → tie.Start
 start-4 c = start-3 (c .before)
 
 abbrev start-5 : tie.Else5 → tie.Start
-start-5 c = start-4 (c .before .before .before)
+start-5 c = start-4 (c .before .before)
 
 abbrev start-6 : tie.Else6 → tie.Start
 start-6 c = start-5 (c .before .before)
@@ -56,8 +56,7 @@ past-4 c = past-3 (c .before) ∙ rw (ne-eqb _ _ (c .if4 .left))
 past-5 : (c : tie.Else5) → Past 5 (rows (start-5 c))
 unfolding fileRows
 past-5 c =
-    past-4 (c .before .before .before)
-    ∙ rw (← (c .before .before .standard-for .ensures), ← (c .before .is-absent .ensures), c .if5 .left)
+    past-4 (c .before .before) ∙ rw (← (c .before .is-absent .ensures), c .if5 .left)
 
 past-6 : (c : tie.Else6) → Past 6 (rows (start-6 c))
 unfolding fileRows
@@ -87,9 +86,6 @@ returns-4 : tie.Need-returns-4
 unfolding fileRows
 returns-4 c = sym (past-3 (c .before) ∙ rw (eq-eqb _ _ (c .if4 .taken)))
 
-standard-for-requires : tie.Need-standard-for-requires
-standard-for-requires c κs = search needs
-
 is-absent-requires : tie.Need-is-absent-requires
 is-absent-requires c κs = search needs
 
@@ -97,8 +93,7 @@ returns-5 : tie.Need-returns-5
 unfolding fileRows
 returns-5 c =
     sym
-    (past-4 (c .before .before .before)
-    ∙ rw (← (c .before .before .standard-for .ensures), ← (c .before .is-absent .ensures), c .if5 .taken))
+    (past-4 (c .before .before) ∙ rw (← (c .before .is-absent .ensures), c .if5 .taken))
 
 no-edition-requires : tie.Need-no-edition-requires
 no-edition-requires c κs = search needs
@@ -149,7 +144,6 @@ file-verdict-spec =
     returns-2
     returns-3
     returns-4
-    standard-for-requires
     is-absent-requires
     returns-5
     no-edition-requires

@@ -1,10 +1,11 @@
--- `book::in_place::file_in` meets its contract: the walk of `InPlaceWalk`, at `file`.
+-- `book::in_place::file_in` meets its contract: the walk of `TableWalk`, at `file`.
 -- Assumes nothing.
 use contract.Running.{givenOf, tables, tablesOf}
 use denote.Triple.Spec.{tripleOf}
 use denote.Triple.Table.{entered, cited}
 use Rattle.book.specs.Rules.{posted}
-use Rattle.book.proofs.InPlaceWalk.{Passed, of-struct, Stepped, meets}
+use Rattle.book.proofs.InPlaceWalk.{Passed, of-struct}
+use Rattle.book.proofs.TableWalk.{Stepped, meets}
 use Rattle.book.proofs.kinds.Filing as X
 use Rattle.book.proofs.kinds.Filing.Laws as X′
 use Rattle.book.specs.declared.kinds.Call.the-variants.{File}
@@ -24,5 +25,5 @@ unfolding code.routine tablesOf
 file-in-spec 𝓤 H 𝓜 𝓖 𝓡 =
     entered 𝓤 H (tripleOf 𝓤 H (𝓖 .A) f.signature (f.spec 𝓤 H (𝓖 .A) (𝓜 .mem) (𝓡 .run)))
     (tables 𝓤 H 𝓜 𝓡 code.env .C) (tables 𝓤 H 𝓜 𝓡 code.env .Λ) #own code.function (code.unfolded 𝓤 H 𝓜 𝓡)
-    (meets passed (λ b r. posted b (File r)) 𝓤 H (𝓖 .A) (givenOf 𝓤 H 𝓜 𝓖) (tablesOf 𝓤 H 𝓜 (tables 𝓤 H 𝓜 𝓡 code.env)) #step
-    (cited 𝓤 H (Stepped passed (λ b r. posted b (File r)) 𝓤 H (𝓖 .A)) 𝓜 𝓡 code.env #step step-def.routine code.calls-book·filing·file (step-thm.met 𝓤 H 𝓜 𝓖 𝓡)))
+    (meets passed (λ t b r. posted t b (File r)) 𝓤 H (𝓖 .A) (givenOf 𝓤 H 𝓜 𝓖) (tablesOf 𝓤 H 𝓜 (tables 𝓤 H 𝓜 𝓡 code.env)) #step
+    (cited 𝓤 H (Stepped passed (λ t b r. posted t b (File r)) 𝓤 H (𝓖 .A)) 𝓜 𝓡 code.env #step step-def.routine code.calls-book·filing·file (step-thm.met 𝓤 H 𝓜 𝓖 𝓡)))

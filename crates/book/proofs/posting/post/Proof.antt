@@ -4,7 +4,8 @@ use contract.Running.{givenOf, tables, tablesOf}
 use denote.Triple.Spec.{tripleOf}
 use denote.Triple.Table.{entered, cited}
 use Rattle.book.specs.Rules.{posted}
-use Rattle.book.proofs.InPlaceWalk.{Passed, of-enum, Thin}
+use Rattle.book.proofs.InPlaceWalk.{Passed, of-enum}
+use Rattle.book.proofs.TableWalk.{Thin}
 use Rattle.book.proofs.LentWalk.{meets}
 use Rattle.book.proofs.kinds.Call as X
 use Rattle.book.proofs.kinds.Call.Laws as X′

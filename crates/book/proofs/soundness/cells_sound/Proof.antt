@@ -5,10 +5,10 @@ use mathlib.Core.Path.{_≡_, refl, sym, _∙_}
 use Prim.Native.Nat.{_≤_, _-_}
 use Rattle.figuring.proofs.BoolLaws.{denied, granted, and-intro}
 use Rattle.book.specs.Sizes.{makers, sets, families, years}
-use Rattle.book.specs.Below.{allBelow}
+use Rattle.figuring.specs.Below.{allBelow}
 use Rattle.book.specs.Ledger.{bookOf, cell}
 use Rattle.book.specs.Soundness.{familySound, yearSound, cellSound, makerSound, cellsSound}
-use Rattle.book.proofs.BelowLaws.{all-more, all-done}
+use Rattle.figuring.proofs.BelowLaws.{all-more, all-done}
 use Rattle.book.proofs.PlaceLaws.{heard-family, heard-year, family-fault, year-fault}
 use Rattle.book.proofs.soundness.cells_sound.Statement.{statement}
 use Rattle.book.proofs.soundness.cells_sound.Tie as tie

@@ -5,9 +5,10 @@ use mathlib.Core.Path.{_≡_, refl, sym, _∙_}
 use native.Mathlib.Omega.{arith}
 use Prim.Native.Nat.{_≤_, _-_}
 use Rattle.book.specs.Sizes.{makers, sets, years, lotsMost}
-use Rattle.book.specs.Below.{allBelow, sumBelow}
+use Rattle.figuring.specs.Below.{allBelow}
+use Rattle.book.specs.Below.{sumBelow}
 use Rattle.book.specs.Soundness.{lotOf, totalSound, setSound, totalsSound}
-use Rattle.book.proofs.BelowLaws.{all-more, all-done}
+use Rattle.figuring.proofs.BelowLaws.{all-more, all-done}
 use Rattle.book.proofs.PlaceLaws.{total-more, total-done, total-fault}
 use Rattle.book.proofs.soundness.totals_sound.Statement.{statement}
 use Rattle.book.proofs.soundness.totals_sound.Tie as tie

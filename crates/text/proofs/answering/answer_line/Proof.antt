@@ -18,13 +18,13 @@ post-requires c κs = search needs
 
 returns : tie.Need-returns
 unfolding answerTo
-returns c = sym (ap (postedLine _) (sym (c .before .before .read-line .ensures) ∙ c .enum-told .given .1))
+returns c = sym (ap (postedLine _ _) (sym (c .before .before .read-line .ensures) ∙ c .enum-told .given .1))
 
 returns-2 : tie.Need-returns-2
 unfolding answerTo
 returns-2 c =
     c .post .ensures
-    ∙ sym (ap (postedLine _) (sym (c .before .before .before .before .read-line .ensures)
+    ∙ sym (ap (postedLine _ _) (sym (c .before .before .before .before .read-line .ensures)
     ∙ c .before .before .call .given .1))
 
 pub answer-line-spec : {M : Type 1} → statement M

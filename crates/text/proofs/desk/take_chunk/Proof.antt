@@ -25,7 +25,7 @@ same-length c = search needs
 
 returns : tie.Need-returns
 returns c =
-    took _ _ _ _ _ _ _
+    took _ _ _ _ _ _ _ _
     (held-long
     (c .before .before .before .before .before .before .before .before .before .before .before .before .before))
     (c .before .before .before .before .before .before .before .before .before .held-count .ensures)

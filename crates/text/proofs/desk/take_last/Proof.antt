@@ -14,7 +14,7 @@ held-count-requires c κs = search needs
 returns : tie.Need-returns
 returns c =
     let h : length (c .before .before .before .before .before .args .desk .held) ≡ mostHeld = search needs in
-    no-last _ _ h (c .before .held-count .ensures) _ (c .if1 .taken)
+    no-last _ _ _ h (c .before .held-count .ensures) _ (c .if1 .taken)
 
 array-share-prefix-held : tie.Need-array-share-prefix-held
 array-share-prefix-held c =
@@ -35,7 +35,7 @@ returns-2 c =
     let h : length
     (c .before .before .before .before .before .before .before .before .before .before .before .args .desk .held)
     ≡ mostHeld = search needs in
-    a-last _ _ h (c .before .before .before .before .before .before .before .held-count .ensures) _ _ _
+    a-last _ _ _ h (c .before .before .before .before .before .before .before .held-count .ensures) _ _ _
     (c .before .before .before .before .before .before .if1 .left)
     (c .before .before .before .before .before .before .before .before .before .before .before .pre)
     (c .before .before .before .answer-into .ensures)

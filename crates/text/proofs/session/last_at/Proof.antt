@@ -21,8 +21,8 @@ part-last-end c = search needs
 last-requires : tie.Need-last-requires
 last-requires c κs = search needs
 
-add-t8 : tie.Need-add-t8
-add-t8 c = search needs
+add-t9 : tie.Need-add-t9
+add-t9 c = search needs
 
 same-length : tie.Need-same-length
 same-length c = search needs
@@ -41,4 +41,4 @@ returns c =
 pub last-at-spec : {M : Type 1} → statement M
 last-at-spec =
     tie.close
-    (tie.spec sub-last part-last-start part-last-end last-requires add-t8 same-length returns)
+    (tie.spec sub-last part-last-start part-last-end last-requires add-t9 same-length returns)

@@ -1,19 +1,23 @@
-//! Arguments of calls aimed at a book.
+//! Arguments of calls aimed at a book and a table.
 
 use crate::calls::{AMEND, APPLY, CLOSE, FILE, TRADE};
 use second::book::{cell, Book, CELLS, FAMILIES, MAKERS, SETS};
 use second::figuring::{
-    is_live, is_open, named_standard, Mg, FIRST_YEAR, MAX_CF, MAX_FCL, MAX_LIFE, MAX_VOLUME, YEARS,
+    is_live, is_open, Mg, FIRST_YEAR, MAX_CF, MAX_FCL, MAX_LIFE, MAX_VOLUME, YEARS,
 };
 use second::generate::rng::Rng;
+use second::standards::{
+    alternative_standard, Table, COLUMNS, COLUMN_USES, GREATEST_STANDARD, LEAST_STANDARD,
+};
 
 /// The place of the FCL among a filing's arguments.
 const FCL: usize = 6;
 
-/// The arguments of a call that the book accepts, most likely, if it is sound.
-pub fn aimed(book: &Book, rng: &mut Rng, kind: usize) -> Vec<u64> {
+/// The arguments of a call that the book accepts, most likely, if it is sound
+/// and the table accepted.
+pub fn aimed(book: &Book, table: &Table, rng: &mut Rng, kind: usize) -> Vec<u64> {
     match kind {
-        FILE | AMEND => aimed_filing(book, rng, kind == AMEND),
+        FILE | AMEND => aimed_filing(book, table, rng, kind == AMEND),
         CLOSE => vec![book.open_year],
         APPLY => aimed_application(book, rng),
         _ => aimed_payment(book, rng, kind),
@@ -22,21 +26,16 @@ pub fn aimed(book: &Book, rng: &mut Rng, kind: usize) -> Vec<u64> {
 
 /// Of a family that isn't filed, or for an amendment of one that is; once in
 /// ten the other way.
-fn aimed_filing(book: &Book, rng: &mut Rng, amendment: bool) -> Vec<u64> {
+fn aimed_filing(book: &Book, table: &Table, rng: &mut Rng, amendment: bool) -> Vec<u64> {
     let maker = rng.index(MAKERS);
-    let set = if book.open_year < 2016 {
-        1 + rng.index(SETS - 1)
-    } else {
-        rng.index(SETS)
-    };
-    let usage = if set < 2 { 0 } else { rng.below(2) };
-    let edition = aimed_edition(rng, set as u64, book.open_year);
-    let mark = book.marks[cell(maker, set)];
+    let (set, usage) = aimed_column(book, table, rng);
+    let edition = aimed_edition(rng, set, book.open_year);
+    let mark = book.marks[cell(maker, set as usize)];
     let filed = amendment != rng.once_in(10);
     let family = from_anywhere(rng, FAMILIES, |family| (mark >> family & 1 == 1) == filed);
     let mut words = vec![
         maker as u64,
-        set as u64,
+        set,
         book.open_year,
         usage,
         edition,
@@ -52,20 +51,32 @@ fn aimed_filing(book: &Book, rng: &mut Rng, amendment: bool) -> Vec<u64> {
             // Where the limit of CF was while it had four decimals.
             12..=15 => most / 10 + rng.below(2),
             // Beside the standards.
-            16..=19 => rng.between(430, 630).min(most),
+            16..=19 => rng
+                .between(LEAST_STANDARD - 2, GREATEST_STANDARD + 2)
+                .min(most),
             _ => rng.between(1, most),
         });
     }
     if rng.once_in(20) {
-        let standard = named_standard(edition, set as u64, usage, book.open_year);
-        words[FCL] = standard.map_or(0, u64::from);
+        let standard = table.named_standard(edition, set, usage, book.open_year);
+        words[FCL] = standard.unwrap_or(0);
     }
     words
 }
 
+/// A set and use for which the table has a standard this year, once in ten any.
+fn aimed_column(book: &Book, table: &Table, rng: &mut Rng) -> (u64, u64) {
+    let any = rng.once_in(10);
+    let column = from_anywhere(rng, COLUMNS, |column| {
+        let (set, usage) = COLUMN_USES[column];
+        any || table.standard(set, usage, book.open_year).is_some()
+    });
+    COLUMN_USES[column]
+}
+
 /// One that the set and year have, at times any of 0 to 3.
 fn aimed_edition(rng: &mut Rng, set: u64, year: u64) -> u64 {
-    let alternative = named_standard(1, set, 0, year).is_some();
+    let alternative = alternative_standard(1, set, 0, year).is_some();
     match rng.below(5) {
         0 => rng.below(4),
         _ if alternative => rng.below(3),

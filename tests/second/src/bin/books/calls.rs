@@ -8,6 +8,7 @@ use second::figuring::{
 };
 use second::generate::{rng::Rng, TELLING_YEARS};
 use second::postings::{Application, Call, Filing, Retirement, Trade};
+use second::standards::Table;
 
 /// A call's kind and its arguments.
 pub const CALL_WORDS: usize = 11;
@@ -112,14 +113,15 @@ const ROLES: [&[Role]; KINDS] = [
     FILING,
 ];
 
-/// A call that the book would accept where it can, or one with some of its
-/// arguments at or past an edge; whatever in the arguments that it lacks.
-pub fn call_on(book: &Book, rng: &mut Rng) -> [u64; CALL_WORDS] {
+/// A call that the book would accept under the table where it can, or one with
+/// some of its arguments at or past an edge; whatever in the arguments that it
+/// lacks.
+pub fn call_on(book: &Book, table: &Table, rng: &mut Rng) -> [u64; CALL_WORDS] {
     let kind = kind_on(book, rng);
     let mut words = [0; CALL_WORDS];
     words.fill_with(|| any(rng));
     words[0] = kind as u64;
-    let arguments = aimed(book, rng, kind);
+    let arguments = aimed(book, table, rng, kind);
     words[1..=arguments.len()].copy_from_slice(&arguments);
     let changes = match rng.below(20) {
         0..=12 => 0,
@@ -132,6 +134,10 @@ pub fn call_on(book: &Book, rng: &mut Rng) -> [u64; CALL_WORDS] {
     changed.sort_unstable();
     for place in changed {
         words[1 + place] = edge(book, rng, &words, ROLES[kind][place], words[1 + place]);
+    }
+    // Refusal 20, where it concerns the call, comes before 3.
+    if !table.is_accepted() && rng.once_in(4) {
+        words[1] = rng.between(6, 9);
     }
     words
 }

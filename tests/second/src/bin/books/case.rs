@@ -1,15 +1,17 @@
-//! One book and one call as a record, and the answer to it.
+//! One book, one call and one table as a record, and the answer to it.
 
 use crate::calls::{call_of, call_on, CALL_WORDS};
 use crate::made::Make;
 use second::book::{Book, CELLS, FAMILIES};
 use second::figuring::{FIRST_YEAR, YEARS};
-use second::generate::rng::Rng;
+use second::generate::{rng::Rng, tables};
 use second::postings::{post, Answer, Results};
+use second::standards::{Table, COLUMNS};
 use std::io::Read;
 
 const BOOK_WORDS: usize = 1 + CELLS + CELLS * FAMILIES + 2 * CELLS * YEARS;
-const RECORD_WORDS: usize = BOOK_WORDS + CALL_WORDS;
+const TABLE_WORDS: usize = YEARS * COLUMNS;
+const RECORD_WORDS: usize = BOOK_WORDS + CALL_WORDS + TABLE_WORDS;
 const ANSWER_WORDS: usize = 4;
 const BYTES: usize = 8;
 
@@ -17,8 +19,10 @@ const BYTES: usize = 8;
 pub struct Case {
     number: u64,
     make: Make,
+    table_make: tables::Made,
     pub book: Book,
     pub call: [u64; CALL_WORDS],
+    pub table: Table,
 }
 
 impl Case {
@@ -26,38 +30,58 @@ impl Case {
         let mut rng = Rng::new(Rng::new(seed).draw() ^ number);
         let make = Make::drawn(&mut rng);
         let book = make.book(&mut rng);
-        let call = call_on(&book, &mut rng);
+        let table_make = tables::Made::drawn(&mut rng);
+        let table = table_make.table(&mut rng);
+        let call = call_on(&book, &table, &mut rng);
         Case {
             number,
             make,
+            table_make,
             book,
             call,
+            table,
         }
     }
 
     pub fn told(&self) -> String {
-        let Case { number, make, .. } = self;
+        let Case {
+            number,
+            make,
+            table_make,
+            ..
+        } = self;
         let call = call_of(&self.call);
-        format!("record {number}, a book {make:?}, {call:?}")
+        format!("record {number}, a book {make:?}, a table {table_make:?}, {call:?}")
     }
 
     pub fn record(&self) -> Vec<u8> {
         let mut words = Vec::with_capacity(RECORD_WORDS);
         push_book(&mut words, &self.book);
         words.extend(self.call);
+        words.extend(self.table.0.iter().flatten());
         words.into_iter().flat_map(u64::to_le_bytes).collect()
+    }
+
+    /// Whether this library finds the book and the table as they were made.
+    fn as_meant(&self, sound: bool) -> Result<(), String> {
+        let accepted = self.table.is_accepted();
+        let wrong = |meant: Option<bool>, found: bool| meant.is_some_and(|meant| meant != found);
+        let amiss =
+            wrong(self.make.soundness(), sound) || wrong(self.table_make.acceptance(), accepted);
+        if amiss {
+            return Err(format!(
+                "the second implementation itself: sound is {sound}, accepted is {accepted}"
+            ));
+        }
+        Ok(())
     }
 
     /// The answer in both, or the first difference in words.
     pub fn hold(&self, answers: &mut impl Read) -> Result<Answer, String> {
         let sound = self.book.is_sound();
-        if self.make.soundness().is_some_and(|meant| meant != sound) {
-            return Err(format!(
-                "the second implementation itself: sound is {sound}"
-            ));
-        }
+        self.as_meant(sound)?;
         let mut after = self.book.clone();
-        let answer = post(&mut after, &call_of(&self.call));
+        let answer = post(&mut after, &self.table, &call_of(&self.call));
         let mut ours = vec![u64::from(sound)];
         ours.extend(values(&answer));
         push_book(&mut ours, &after);

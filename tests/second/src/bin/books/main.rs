@@ -1,10 +1,11 @@
 //! `books PROGRAM N [SEED]`: holds PROGRAM, the probe of the book layer,
-//! against this library on N random books with a call each, sound or not, and
-//! stops at the first difference.
+//! against this library on N random books with a call and a table each, sound
+//! or not, and stops at the first difference.
 //!
 //! PROGRAM reads records to the end of its input and ignores a last one that
 //! is cut short. A record is 3,617 words of a book, then a call's kind and
-//! ten arguments; its answer is the book's soundness, the refusal or 0, two
+//! ten arguments, then 144 words of a table, row by row, whatever the call: in
+//! all 30,176 bytes. Its answer is the book's soundness, the refusal or 0, two
 //! values, and the book after it. A word is 64 bits, low byte first. The kinds
 //! are 0 file, 1 close, 2 trade, 3 apply, 4 retire, 5 amend. One that is none
 //! ends PROGRAM with a message, and is tried first.

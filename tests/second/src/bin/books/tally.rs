@@ -2,8 +2,10 @@
 
 use crate::calls::{call_of, kind_of, KINDS};
 use crate::case::Case;
-use second::book::cell;
-use second::postings::{Answer, Call, Filing, Results};
+use second::book::{cell, MAKERS};
+use second::postings::{Answer, Call, Filing, Refusal, Results};
+use second::standards::Table;
+use std::fmt;
 
 #[derive(Default)]
 pub struct Tally {
@@ -16,7 +18,55 @@ pub struct Tally {
     /// Accepted amendments whose part became 0, or changed its sign.
     to_nothing: u64,
     to_other_sign: u64,
-    refused: [u64; 19],
+    refused: [u64; 21],
+    tables: Tables,
+}
+
+/// How calls fared that were handed a table of their own.
+#[derive(Default)]
+struct Tables {
+    /// Filings and amendments accepted under another table than the built-in.
+    accepted: u64,
+    /// Of the tables that are not accepted: filings and amendments of an
+    /// unsound book (2), those with a maker above 7 (20), and other calls that
+    /// were accepted.
+    unsound: u64,
+    before_maker: u64,
+    others: u64,
+}
+
+impl Tables {
+    fn count(&mut self, case: &Case, answer: &Answer) {
+        let own = case.table != Table::built_in();
+        let broken = !case.table.is_accepted();
+        match (call_of(&case.call), answer) {
+            (Call::File(_) | Call::Amend(_), Ok(_)) => self.accepted += u64::from(own),
+            (Call::File(_) | Call::Amend(_), Err(Refusal::UnsoundBook)) => {
+                self.unsound += u64::from(broken)
+            }
+            (Call::File(c) | Call::Amend(c), Err(Refusal::Table)) => {
+                self.before_maker += u64::from(c.maker >= MAKERS as u64)
+            }
+            (_, Ok(_)) => self.others += u64::from(broken),
+            (_, Err(_)) => {}
+        }
+    }
+}
+
+impl fmt::Display for Tables {
+    fn fmt(&self, f: &mut fmt::Formatter<'_>) -> fmt::Result {
+        let Tables {
+            accepted,
+            unsound,
+            before_maker,
+            others,
+        } = self;
+        write!(
+            f,
+            "accepted under a table of its own {accepted}; with one that is not accepted: \
+             2 before 20 {unsound}, 20 before 3 {before_maker}, other calls accepted {others}"
+        )
+    }
 }
 
 impl Tally {
@@ -27,6 +77,7 @@ impl Tally {
             Ok(_) => self.accepted[kind_of(&case.call)] += 1,
             Err(refusal) => self.refused[usize::from(refusal.number())] += 1,
         }
+        self.tables.count(case, answer);
         match (call_of(&case.call), answer) {
             (Call::File(filing), Ok(_)) => self.filed_under[filing.edition as usize] += 1,
             (Call::Amend(amended), Ok(results)) => self.count_amended(case, &amended, results),
@@ -48,8 +99,10 @@ impl Tally {
     pub fn answers(&self) -> String {
         let accepted: u64 = self.accepted.iter().sum();
         let refused: u64 = self.refused.iter().sum();
-        let numbers = self.refused.iter().enumerate().skip(2);
+        // No call gets 1 or 19, which are of text alone.
+        let numbers = self.refused.iter().enumerate();
         let numbers: Vec<String> = numbers
+            .filter(|(number, _)| ![0, 1, 19].contains(number))
             .map(|(number, n)| format!("{number}: {n}"))
             .collect();
         format!(
@@ -67,13 +120,14 @@ impl Tally {
             sound,
             to_nothing,
             to_other_sign,
+            tables,
             ..
         } = self;
         format!(
             "{sound} of {books} books sound; accepted: \
              file {file} (by edition {ordinary}, {earlier}, {later}), \
              amend {amend} (by edition {}, {}, {}; part to 0 {to_nothing}, to the other sign {to_other_sign}), \
-             close {close}, trade {trade}, apply {apply}, retire {retire}",
+             close {close}, trade {trade}, apply {apply}, retire {retire}; {tables}",
             amended[0], amended[1], amended[2]
         )
     }

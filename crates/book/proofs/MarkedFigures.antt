@@ -4,7 +4,7 @@ use mathlib.Core.Path.{_≡_, refl, _∙_, ap}
 use native.Mathlib.Omega.{arith}
 use lib.IntN.{pos}
 use Rattle.figuring.specs.Standards.{standardFor, tractor, printedFor, isAbsent}
-use Rattle.figuring.specs.Tables.{Table, builtIn, ordinaryIn}
+use Rattle.figuring.specs.Tables.{builtIn}
 use Rattle.figuring.proofs.TableLaws.{built-in-accepted, as-printed}
 use Rattle.figuring.specs.Editions.{noEdition}
 use Rattle.figuring.specs.Parts.{withinLimits, between}

@@ -1,11 +1,9 @@
 -- Card 7 in the book: where 20 comes, that no other call reads a table, and that with the built-in one all is as before.
-use Prim.Native.Nat.{ℕ}
-use mathlib.Core.Bool.{true, false, not}
+use mathlib.Core.Bool.{true, not}
 use mathlib.Core.List.{[], _∷_}
-use mathlib.Core.Path.{_≡_, refl, ap}
+use mathlib.Core.Path.{_≡_, refl}
 use native.Mathlib.Omega.{arith}
-use Rattle.figuring.specs.Standards.{standardFor}
-use Rattle.figuring.specs.Tables.{Table, acceptedTable, builtIn, ordinaryIn}
+use Rattle.figuring.specs.Tables.{Table, acceptedTable}
 use Rattle.figuring.proofs.TableLaws.{built-in-accepted, as-printed}
 use Rattle.book.specs.Soundness.{sound}
 use Rattle.book.specs.Refusals.{_⇒_, refusalIn}
@@ -19,7 +17,7 @@ use Rattle.book.proofs.TableLaws.{by-rows}
 use Rattle.book.proofs.RefusalLaws.{accepted-number}
 use Rattle.book.proofs.FileFacts.{accepted-filing}
 use Rattle.book.proofs.FilingLaws.{filed-part}
-use Rattle.book.proofs.CallLaws.{lawful, noneGives, filed-gives-not}
+use Rattle.book.proofs.CallLaws.{lawful, filed-gives-not}
 use Rattle.book.proofs.NeverUnsound.{refuses-not}
 
 -- ---- 20

@@ -9,9 +9,7 @@ ghost use Rattle.credit_book.specs.StdFile.{AddedBy, FromFile, Opened, S
 use book::answers::Refusal;
 use figuring::tables::Table;
 use text::tables::Loading;
-
-// As many bytes of a table's text as decide: the text layer proves that those past them cannot change what it is read as.
-const TABLE_ROOM: usize = 3_865;
+use text::tables::TABLE_ROOM;
 
 // What became of the file.
 pub enum TableFile {

@@ -9,15 +9,13 @@ use libc::STDOUT_FILENO;
 use text::answering::ANSWER_ROOM;
 use text::listing::LISTING_ROOM;
 use text::tables::Loading;
+use text::tables::TABLE_ROOM;
 
 // A session's most bytes.
 const LONGEST: usize = 32_768;
 
 // Room for what a session of that length can give.
 const ROOM: usize = ANSWER_ROOM * (LONGEST + 1) + LISTING_ROOM;
-
-// So many bytes of a table's text decide.
-const TABLE_ROOM: usize = 3_865;
 
 fn say(text: &[u8]) {
     if !io::write_all(STDOUT_FILENO, text) {

@@ -15,6 +15,9 @@ use figuring::tables::Table;
 use figuring::tables::row_fits;
 use figuring::years::FIRST_YEAR;
 
+// So many bytes of a text decide, whatever its length: `first-bytes` of TableTexts. A reader needs no more of them.
+pub const TABLE_ROOM: usize = 3_865;
+
 // That a table was read and is accepted; or the refusal.
 pub enum Loading {
     Loaded,

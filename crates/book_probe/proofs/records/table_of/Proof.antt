@@ -3,7 +3,6 @@ use Prim.Native.Nat.{_≤_, _-_}
 use mathlib.Core.Path.{_≡_}
 use lib.ListN.{length}
 use borrow.Author.Needs.{needs}
-use Rattle.book_probe.specs.Sizes.{recordBytes}
 use Rattle.book_probe.proofs.records.table_of.Statement.{statement}
 use Rattle.book_probe.proofs.records.table_of.Tie as tie
 

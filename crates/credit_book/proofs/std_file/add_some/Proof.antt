@@ -1,4 +1,3 @@
-use native.Mathlib.Omega.{arith}
 use borrow.Author.Needs.{needs}
 use Rattle.credit_book.proofs.StdFileLaws.{added}
 use Rattle.credit_book.proofs.std_file.add_some.Statement.{statement}

@@ -1,7 +1,7 @@
 -- Laws of the test of any and of the sums over the numbers below a bound: what a counted loop needs at each turn and at its end, and
 -- what the theorems need of a sum of which one term changed.
 use Prim.Native.Nat.{ℕ, zero, suc, _+_, _*_, _-_, _<_, _≤_}
-use mathlib.Core.Bool.{Bool, true, false}
+use mathlib.Core.Bool.{Bool, true, false, or-true}
 use mathlib.Core.Logic.{⊎-elim}
 use mathlib.Core.Path.{_≡_, refl, _∙_, ap, ap₂}
 use native.Mathlib.Omega.{arith}
@@ -10,7 +10,7 @@ use native.Mathlib.Nat.{le-refl, suc-mul}
 use native.Mathlib.Decide.{ℕ-discrete}
 use lib.IntN.{ℤ, pos, natAbs, _+ℤ_}
 use Rattle.figuring.proofs.SignedLaws.{abs-add}
-use Rattle.figuring.proofs.BelowLaws.{or-true, below-suc}
+use Rattle.figuring.proofs.BelowLaws.{below-suc}
 use Rattle.book.specs.Below.{anyBelow, sumBelow, sumBelowℤ, countBelow, oneIf}
 
 -- ---- one more

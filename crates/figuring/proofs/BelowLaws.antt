@@ -1,6 +1,6 @@
 -- Laws of the test of all the numbers below a bound: what a counted loop needs at each turn and at its end.
 use Prim.Native.Nat.{ℕ, zero, suc, _+_, _<_, _≤_}
-use mathlib.Core.Bool.{Bool, true, false, _||_, and-false, false≢true}
+use mathlib.Core.Bool.{Bool, true, false, and-false, false≢true}
 use mathlib.Core.Logic.{⊎-elim, _⊎_, inl, inr}
 use mathlib.Core.Path.{_≡_, refl, sym, _∙_, ap}
 use native.Mathlib.Omega.{arith}
@@ -15,10 +15,6 @@ unfolding allBelow
 all-more p n h k = rw (add-one, h, k)
 
 -- ---- one that decides
-pub or-true : (b : Bool) → (b || true) ≡ true
-or-true true = refl
-or-true false = refl
-
 pub below-suc : {i n : ℕ} → i < suc n → (i ≡ n) ⊎ (i < n)
 below-suc {i} {n} h = go (ℕ-discrete i n)
   where

@@ -1,22 +1,21 @@
--- The grid of the printed standards has, at every year's row and every column, what `standardFor` says: so a table that is
--- this grid has the printed standards.
+-- The grid of the printed standards has, at every year's row and every column, what `standardFor` says.
 use Prim.Native.Nat.{ℕ, zero, suc, _+_, _<_, _≤_, min}
-use mathlib.Core.Bool.{Bool, true, false, cond, _&&_}
+use mathlib.Core.Bool.{Bool, true, false}
 use mathlib.Core.Path.{_≡_, refl, sym, _∙_, ap}
 use mathlib.Core.List.{[]}
 use native.Mathlib.Omega.{arith}
 use native.Mathlib.Nat.{add-zero}
-use borrow.Author.Tests.{leb-true, leb-false, ltb-true, ltb-false}
-use lib.Dec.{ltb, leb}
+use borrow.Author.Tests.{ltb-true, ltb-false}
+use lib.Dec.{ltb}
 use lib.ListN.{getD, List·getD-eq-default}
 use Rattle.figuring.specs.Years.{firstYear, lastYear}
 use Rattle.figuring.specs.Parts.{between}
 use Rattle.figuring.specs.Standards.{standardFor, vocational, tractor, gramsOf}
 use Rattle.figuring.specs.Grid.{gridYears, gridColumns, gridRow, gridFrom, printedGrid, rowOf, columnOf}
-use Rattle.figuring.specs.Tables.{builtIn, entry, isStandard, standardOf, ordinaryIn}
+use Rattle.figuring.specs.Tables.{builtIn, entry, isStandard, standardOf}
 use Rattle.figuring.specs.declared.standards.Standard.{Standard}
 use Rattle.figuring.specs.declared.standards.Standard.the-variants.{Given, Absent}
-use Rattle.figuring.proofs.StandardLaws.{every, inRange, in-range, none-before, last-after}
+use Rattle.figuring.proofs.StandardLaws.{every, inRange, in-range, last-after}
 
 -- ---- entries: a standard is within the limits and none is 0, so the entry gives it back
 back-of : (x : Standard) → inRange x ≡ true → standardOf (gramsOf x) ≡ x
@@ -32,7 +31,7 @@ in-column : (s u y : ℕ) → getD (gridRow y) (columnOf s u) 0 ≡ gramsOf (sta
 unfolding gridRow standardFor vocational tractor gramsOf
 in-column s u y = every (λ j x. getD (gridRow y) j 0 ≡ gramsOf x) y refl refl refl refl refl refl refl s u
 
-no-column : (s u y : ℕ) → gridColumns ≤ columnOf s u → standardFor s u y ≡ Absent
+pub no-column : (s u y : ℕ) → gridColumns ≤ columnOf s u → standardFor s u y ≡ Absent
 unfolding standardOf isStandard between gridRow
 no-column s u y h =
     sym (back s u y)
@@ -56,18 +55,7 @@ same-standard s u y = go (ltb lastYear y) refl
     go true h = ap (standardFor s u) (omega (arith, ltb-true)) ∙ sym (last-after s u y (omega (arith, ltb-true)))
     go false h = ap (standardFor s u) (omega (arith, ltb-false))
 
--- ---- what is read at a row and a column, and of every set, use and year
-standard-read : (s u y : ℕ) → firstYear ≤ y → standardOf (entry builtIn (rowOf y) (columnOf s u)) ≡ standardFor s u y
+-- ---- what is read at a row and a column
+pub standard-read : (s u y : ℕ) → firstYear ≤ y → standardOf (entry builtIn (rowOf y) (columnOf s u)) ≡ standardFor s u y
 standard-read s u y l =
     ap standardOf (rw (row-read y l) (in-column s u (min y lastYear)) ∙ ap gramsOf (same-standard s u y)) ∙ back s u y
-
-pub as-printed : (s u y : ℕ) → ordinaryIn builtIn s u y ≡ standardFor s u y
-unfolding ordinaryIn
-as-printed s u y = go (leb firstYear y) (ltb (columnOf s u) gridColumns) refl refl
-  where
-    go :
-        (a b : Bool) → leb firstYear y ≡ a → ltb (columnOf s u) gridColumns ≡ b
-        → cond (a && b) (standardOf (entry builtIn (rowOf y) (columnOf s u))) Absent ≡ standardFor s u y
-    go true true e d = standard-read s u y (leb-true firstYear y e)
-    go true false e d = sym (no-column s u y (ltb-false (columnOf s u) gridColumns d))
-    go false b e d = sym (none-before s u y (leb-false firstYear y e))

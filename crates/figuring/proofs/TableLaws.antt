@@ -10,7 +10,7 @@ use native.Mathlib.Decide.{decLt}
 use borrow.Author.Tests.{le-leb, lt-leb, lt-ltb, le-ltb, leb-true, eqb-true, eq-eqb, ne-eqb}
 use lib.Dec.{leb, ltb, eqb}
 use lib.ListN.{getD, getD-replicate}
-use Rattle.figuring.specs.Years.{firstYear}
+use Rattle.figuring.specs.Years.{firstYear, lastYear}
 use Rattle.figuring.specs.Below.{allBelow}
 use Rattle.figuring.specs.Parts.{between, standardLeast, standardMost}
 use Rattle.figuring.specs.Standards.{standardFor, vocational, tractor, spark, printedFor, gramsOf, isAbsent}
@@ -22,8 +22,8 @@ use Rattle.figuring.specs.declared.standards.Standard.the-variants.{Give
 use Rattle.figuring.proofs.BoolLaws.{both, and-intro}
 use Rattle.figuring.proofs.BelowLaws.{all-at, all-of}
 use Rattle.figuring.proofs.PartLaws.{part-bound}
-use Rattle.figuring.proofs.StandardLaws.{inRange, in-either, is-standard, range-is}
-pub use Rattle.figuring.proofs.GridLaws.{as-printed}
+use Rattle.figuring.proofs.StandardLaws.{inRange, in-either, is-standard, range-is, none-before}
+use Rattle.figuring.proofs.GridLaws.{no-column, standard-read}
 
 -- ---- where a table has a standard
 pub read-in :
@@ -40,18 +40,44 @@ pub none-in : (t : Table) (s u y : ℕ) {j : ℕ} → gridColumns ≤ j → j �
 unfolding ordinaryIn
 none-in t s u y {j} h q = rw (← q, le-ltb j gridColumns h, and-false (leb firstYear y))
 
--- a use with a standard is 0 or 1: the others have no column
-no-use : (s u : ℕ) → (u < 2 → ⊥) → columnOf s u ≡ gridColumns
-unfolding columnOf
-no-use s u h = rw (ne-eqb u 0 (λ z. h (omega arith)), ne-eqb u 1 (λ z. h (omega arith)))
+-- a use above 1 has no column, nor a set above 3, nor a tractor of sets 0 and 1
+module _ (t : Table) where
+  no-use : (s u y : ℕ) → 1 < u → ordinaryIn t s u y ≡ Absent
+  unfolding columnOf
+  no-use s u y h =
+      none-in t s u y {j = gridColumns} (omega arith) (rw (ne-eqb u 0 (λ z. omega arith), ne-eqb u 1 (λ z. omega arith)))
 
-pub use-known : (t : Table) (s u y : ℕ) → isAbsent (ordinaryIn t s u y) ≡ false → u < 2
-unfolding isAbsent
-use-known t s u y h = go (decLt u 2)
-  where
-    go : Dec (u < 2) → u < 2
-    go (yes l) = l
-    go (no n) = absurd (true≢false (sym (ap isAbsent (none-in t s u y (omega arith) (sym (no-use s u n)))) ∙ h))
+  no-set : (s u y : ℕ) → 3 < s → ordinaryIn t s u y ≡ Absent
+  unfolding columnOf
+  no-set s u y h =
+      none-in t s u y {j = gridColumns} (omega arith)
+      (rw (ne-eqb s 0 (λ z. omega arith), ne-eqb s 1 (λ z. omega arith), ne-eqb s 2 (λ z. omega arith), ne-eqb s 3 (λ z. omega arith))
+      (sym (same (eqb u 0) (same (eqb u 1) refl))))
+    where
+      same : (b : Bool) {n : ℕ} → n ≡ gridColumns → cond b gridColumns n ≡ gridColumns
+      same true e = refl
+      same false e = e
+
+  no-tractor : (s y : ℕ) → s < 2 → ordinaryIn t s 1 y ≡ Absent
+  unfolding columnOf
+  no-tractor s y h =
+      none-in t s 1 y {j = gridColumns} (omega arith) (rw (ne-eqb s 2 (λ z. omega arith), ne-eqb s 3 (λ z. omega arith)))
+
+  pub use-known : (s u y : ℕ) → isAbsent (ordinaryIn t s u y) ≡ false → u < 2
+  unfolding isAbsent
+  use-known s u y h = go (decLt u 2)
+    where
+      go : Dec (u < 2) → u < 2
+      go (yes l) = l
+      go (no n) = absurd (true≢false (sym (ap isAbsent (no-use s u y (omega arith))) ∙ h))
+
+  -- every later year is read where 2037 is
+  later : (s u y : ℕ) → lastYear ≤ y → ordinaryIn t s u y ≡ ordinaryIn t s u lastYear
+  unfolding ordinaryIn
+  later s u y h =
+      let r : rowOf y ≡ rowOf lastYear = omega arith in
+      rw (le-leb firstYear y (omega arith))
+      (ap (λ (i : ℕ). cond (ltb (columnOf s u) gridColumns) (standardOf (entry t i (columnOf s u))) Absent) r)
 
 -- ---- every standard of a table, accepted or not, is within the limits
 entry-in-range : (n : ℕ) → inRange (standardOf n) ≡ true
@@ -145,22 +171,44 @@ module _ (t : Table) (p : (i j : ℕ) → i < gridYears → j < gridColumns → 
 -- ---- an accepted table's standard is its entry
 zero-none : (n : ℕ) → (n ≡ 0) ⊎ Within n → standardOf n ≡ zeroNone n
 unfolding standardOf isStandard between
-zero-none n =
-    ⊎-elim (λ z. rw z)
-    (λ h. rw (le-leb standardLeast n (h .0), le-leb n standardMost (h .1), ne-eqb n 0 (λ z. omega arith)))
+zero-none n = ⊎-elim (λ z. rw z) (λ h. rw (standard-is n h, ne-eqb n 0 (λ z. omega arith)))
 
-read :
-    (t : Table) → acceptedTable t ≡ true → (s u y : ℕ) → firstYear ≤ y → columnOf s u < gridColumns
-    → ordinaryIn t s u y ≡ zeroNone (entry t (rowOf y) (columnOf s u))
-read t a s u y l h =
-    sym (read-in t s u y l h refl refl)
-    ∙ zero-none (entry t (rowOf y) (columnOf s u)) (limits t a (rowOf y) (columnOf s u) (omega arith) h)
+module _ (t : Table) (a : acceptedTable t ≡ true) (i : ℕ) (hi : i < gridYears) where
+  read : (s u j : ℕ) → j < gridColumns → j ≡ columnOf s u → ordinaryIn t s u (firstYear + i) ≡ zeroNone (entry t i j)
+  read s u j hj q =
+      sym (read-in t s u (firstYear + i) (omega arith) hj (omega arith) q) ∙ zero-none (entry t i j) (limits t a i j hi hj)
+
+  columns :
+      (ordinaryIn t 0 0 (firstYear + i) ≡ zeroNone (entry t i 0))
+      × (ordinaryIn t 1 0 (firstYear + i) ≡ zeroNone (entry t i 1))
+      × (ordinaryIn t 2 0 (firstYear + i) ≡ zeroNone (entry t i 2))
+      × (ordinaryIn t 3 0 (firstYear + i) ≡ zeroNone (entry t i 3))
+      × (ordinaryIn t 2 1 (firstYear + i) ≡ zeroNone (entry t i 4))
+      × (ordinaryIn t 3 1 (firstYear + i) ≡ zeroNone (entry t i 5))
+  unfolding columnOf
+  columns = (
+    read 0 0 0 (omega arith) refl,
+    read 1 0 1 (omega arith) refl,
+    read 2 0 2 (omega arith) refl,
+    read 3 0 3 (omega arith) refl,
+    read 2 1 4 (omega arith) refl,
+    read 3 1 5 (omega arith) refl,
+  )
 
 -- ---- the built-in table: all its rows, computed
 pub built-in-accepted : acceptedTable builtIn ≡ true
 unfolding acceptedTable allBelow rowGood rowFits fitsAt entryFits isStandard between rowBefore
     printedGrid gridFrom gridRow standardFor vocational tractor spark printedFor gramsOf
 built-in-accepted = refl
+
+-- and its standards are the printed ones
+pub as-printed : (s u y : ℕ) → ordinaryIn builtIn s u y ≡ standardFor s u y
+as-printed s u y = go (decLt y firstYear) (decLt (columnOf s u) gridColumns)
+  where
+    go : Dec (y < firstYear) → Dec (columnOf s u < gridColumns) → ordinaryIn builtIn s u y ≡ standardFor s u y
+    go (yes e) d = none-early builtIn s u y e ∙ sym (none-before s u y e)
+    go (no e) (yes d) = sym (read-in builtIn s u y (omega arith) d refl refl) ∙ standard-read s u y (omega arith)
+    go (no e) (no d) = none-in builtIn s u y (omega arith) refl ∙ sym (no-column s u y (omega arith))
 
 -- ---- the card's words
 pub card-tables : CardTables
@@ -169,7 +217,12 @@ card-tables =
       limits = limits;
       falls = falls;
       only = only;
-      read = read;
+      columns = columns;
+      no-tractor = no-tractor;
+      no-set = no-set;
+      no-use = no-use;
+      no-year = none-early;
+      later = later;
       built-in = built-in-accepted;
       as-printed = as-printed;
       bound = λ t s u y fcl cf volume life e w.

@@ -1,7 +1,7 @@
 -- Card 7, "The customer's own standards": the tables that are accepted, and the ordinary standard that a table has.
 -- A table is "an array of rows", 24 of 6 figures, a row a year from 2014 on; the columns are those of the grid of card 2.
 -- Any figures make a table: which of them are accepted is said here.
-use Prim.Native.Nat.{ℕ, zero, suc, _*_, _<_, _≤_}
+use Prim.Native.Nat.{ℕ, zero, suc, _+_, _*_, _<_, _≤_}
 use mathlib.Core.Bool.{Bool, true, cond, _&&_, _||_}
 use mathlib.Core.Logic.{_⊎_}
 use mathlib.Core.List.{List, []}
@@ -94,10 +94,22 @@ pub record CardTables : Type 0 where
   pub only :
       (t : Table) → ((i j : ℕ) → i < 24 → j < 6 → Allowed t i j) → ((i j : ℕ) → suc i < 24 → j < 6 → Falls t i j)
       → acceptedTable t ≡ true
-  -- the standard of an accepted table is its entry
-  pub read :
-      (t : Table) → acceptedTable t ≡ true → (s u y : ℕ) → 2014 ≤ y → columnOf s u < 6
-      → ordinaryIn t s u y ≡ zeroNone (entry t (rowOf y) (columnOf s u))
+  -- "The columns are set 0, set 1, then the four of card 5", in rows from 2014 on: there stands the standard of an accepted
+  -- table, for each set and use
+  pub columns :
+      (t : Table) → acceptedTable t ≡ true → (i : ℕ) → i < 24
+      → (ordinaryIn t 0 0 (2014 + i) ≡ zeroNone (entry t i 0))
+      × (ordinaryIn t 1 0 (2014 + i) ≡ zeroNone (entry t i 1))
+      × (ordinaryIn t 2 0 (2014 + i) ≡ zeroNone (entry t i 2))
+      × (ordinaryIn t 3 0 (2014 + i) ≡ zeroNone (entry t i 3))
+      × (ordinaryIn t 2 1 (2014 + i) ≡ zeroNone (entry t i 4))
+      × (ordinaryIn t 3 1 (2014 + i) ≡ zeroNone (entry t i 5))
+  -- no other set and use has one, nor an earlier year; a later year has that of 2037
+  pub no-tractor : (t : Table) (s y : ℕ) → s < 2 → ordinaryIn t s 1 y ≡ Absent
+  pub no-set : (t : Table) (s u y : ℕ) → 3 < s → ordinaryIn t s u y ≡ Absent
+  pub no-use : (t : Table) (s u y : ℕ) → 1 < u → ordinaryIn t s u y ≡ Absent
+  pub no-year : (t : Table) (s u y : ℕ) → y < 2014 → ordinaryIn t s u y ≡ Absent
+  pub later : (t : Table) (s u y : ℕ) → 2037 ≤ y → ordinaryIn t s u y ≡ ordinaryIn t s u 2037
   -- "the built-in one being one of them", and its standards are the printed ones
   pub built-in : acceptedTable builtIn ≡ true
   pub as-printed : (s u y : ℕ) → ordinaryIn builtIn s u y ≡ standardFor s u y

@@ -17,6 +17,7 @@ pub mod WholeLaws
 pub mod FirstLineLaws
 pub mod RowLaws
 pub mod TableRowsLaws
+mod FaultLaws
 pub mod TableTextLaws
 pub mod LoadLaws
 pub mod ReaderWalk

@@ -26,6 +26,7 @@ use Rattle.text.proofs.FirstLineLaws.{noFeed, one-filled, first-cut, af
 use Rattle.text.proofs.RowLaws.{row-is, row-read, row-cut, row-small}
 use Rattle.text.proofs.RowLaws.{Follow, accepted-follow}
 use Rattle.text.proofs.TableRowsLaws.{onward, too-many, not-read, IsRows, only}
+use Rattle.text.proofs.FaultLaws.{faults}
 
 -- ---- a table's text is read as it
 -- a list that ends in x, in two parts of which the second is not empty
@@ -146,6 +147,7 @@ table-texts =
     record {
       only = only;
       each = each;
+      faults = faults;
       refusals = λ s r e. refusals gridYears firstYear noRow (linesOf s) r e;
       first-bytes = λ s. decided gridYears firstYear noRow tableRoom s (lit≤ tt);
     }

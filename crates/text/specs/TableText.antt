@@ -1,6 +1,6 @@
 -- Card 7: the customer's own table of standards as "a text of its own, the file `std.txt`": how it is read, and how it is
 -- written.
-use Prim.Native.Nat.{ℕ, zero, suc}
+use Prim.Native.Nat.{ℕ, zero, suc, _+_, _<_}
 use mathlib.Core.Bool.{Bool, true, false, cond}
 use mathlib.Core.Logic.{_⊎_}
 use mathlib.Core.Option.{Option, none, some}
@@ -105,6 +105,33 @@ pub record Whole (t : Table) : Type 0 where
 abbrev pub IsTableText : List ℕ → Table → Type 0
 IsTableText s t = (s ≡ tableText t) ⊎ (s ++ (lineFeed ∷ []) ≡ tableText t)
 
+-- some lines are right, from the year y on and after the row of the year before: each is the row of its year, and may
+-- follow the one before it
+abbrev pub Right : ℕ → List ℕ → List (List ℕ) → Table → Type 0
+Right y before [] [] = Unit {0}
+Right y before [] (row ∷ rows) = ⊥
+Right y before (l ∷ ls) [] = ⊥
+Right y before (l ∷ ls) (row ∷ rows) =
+    (rowIn y l ≡ some row) × ((rowFits before row ≡ true) × Right (suc y) row ls rows)
+
+abbrev pub lastRow : List ℕ → Table → List ℕ
+lastRow before [] = before
+lastRow before (row ∷ rows) = lastRow row rows
+
+-- "The first line at fault decides": ls are the lines before it, all right, with these rows
+pub record Faults (s : List ℕ) (ls : List (List ℕ)) (rows : Table) : Type 0 where
+  -- "19, a line isn't of that form, is missing or too many, or its year is wrong"
+  pub malformed :
+      (l : List ℕ) (after : List (List ℕ)) → linesOf s ≡ ls ++ l ∷ after → length ls < 24 → rowIn (2014 + length ls) l ≡ none
+      → tableOf s ≡ refused NotATable
+  pub missing : linesOf s ≡ ls → length ls < 24 → tableOf s ≡ refused NotATable
+  pub too-many :
+      (l : List ℕ) (after : List (List ℕ)) → linesOf s ≡ ls ++ l ∷ after → length ls ≡ 24 → tableOf s ≡ refused NotATable
+  -- "20, an entry breaks the limits or rises"; "19 before 20", so of a line that is a row of its year
+  pub unfit :
+      (l : List ℕ) (after : List (List ℕ)) (row : List ℕ) → linesOf s ≡ ls ++ l ∷ after → length ls < 24
+      → rowIn (2014 + length ls) l ≡ some row → rowFits (lastRow noRow rows) row ≡ false → tableOf s ≡ refused UnfitTable
+
 -- so many bytes of a text decide: 24 lines of at most 160 bytes, each with its line feed, and one byte more
 abbrev pub tableRoom : ℕ
 tableRoom = 3865
@@ -114,6 +141,8 @@ pub record TableTexts : Type 0 where
   pub only : (s : List ℕ) (t : Table) → tableOf s ≡ table t → IsTableText s t × (Whole t × (acceptedTable t ≡ true))
   -- the written text of an accepted table, with or without its last line feed, is read as that table
   pub each : (s : List ℕ) (t : Table) → IsTableText s t → Whole t → acceptedTable t ≡ true → tableOf s ≡ table t
+  -- by which refusal, whatever comes after the first line at fault
+  pub faults : (s : List ℕ) (ls : List (List ℕ)) (rows : Table) → Right 2014 noRow ls rows → Faults s ls rows
   -- no text is refused but by 19 or 20
   pub refusals : (s : List ℕ) (r : Refusal) → tableOf s ≡ refused r → (r ≡ NotATable) ⊎ (r ≡ UnfitTable)
   -- whatever a text's length, its first bytes decide: those past them cannot change what it is read as

@@ -6,7 +6,7 @@ mod common;
 use common::any::*;
 use common::*;
 use second::book::{cell, Book};
-use second::figuring::{Figures, Part};
+use second::figuring::Part;
 use second::generate::rng::Rng;
 use second::postings::{Call, Filing, Refusal};
 use std::collections::BTreeSet;
@@ -155,27 +155,22 @@ fn a_close_nets_the_last_figures() {
 #[test]
 fn a_full_cell_is_amended_to_the_limits() {
     let mut book = book(2027, &[], &[]);
-    let at_the_limits = |family, usage, fcl| Filing {
+    let largest = |family, usage, fcl| Filing {
         maker: 7,
         set: 3,
         year: 2027,
         usage,
         edition: 0,
         family,
-        figures: Figures {
-            fcl,
-            cf: 1_000_000,
-            volume: 100_000,
-            life: 500,
-        },
+        figures: at_the_limits(fcl),
     };
     for number in 0..64 {
-        let lowest = at_the_limits(number, 0, 1);
+        let lowest = largest(number, 0, 1);
         let answer = post(&mut book, &Call::File(lowest));
         assert_eq!(answer, filed(25_100_000_000_000_000, number + 1));
     }
     for number in 0..64 {
-        let highest = at_the_limits(number, 1, 1_200);
+        let highest = largest(number, 1, 1_200);
         assert_eq!(
             amend(&mut book, highest),
             filed(-38_400_000_000_000_000, 64)

@@ -11,24 +11,6 @@ use second::figuring::Figures;
 use second::postings::{Answer, Call, Filing, Results};
 use second::text::parse;
 
-/// A filing of maker 0 whose part is the standard less 1.
-fn filing(edition: u64, set: u64, usage: u64, year: u64) -> Filing {
-    Filing {
-        maker: 0,
-        set,
-        year,
-        usage,
-        edition,
-        family: 0,
-        figures: Figures {
-            fcl: 1,
-            cf: 1,
-            volume: 1,
-            life: 1,
-        },
-    }
-}
-
 fn put(book: &Book, filing: &Filing) -> Answer {
     post(&mut book.clone(), &Call::File(*filing))
 }

@@ -6,7 +6,7 @@ use common::*;
 use second::accounts::Accounts;
 use second::audit::Audit;
 use second::book::{cell, Book};
-use second::figuring::{Figures, Mg};
+use second::figuring::Mg;
 use second::generate::rng::Rng;
 use second::generate::tables::{accepted, Made};
 use second::postings::{post as post_under, Answer, Call, Filing, Results};
@@ -20,24 +20,6 @@ fn broken() -> Table {
     let mut table = BUILT_IN.clone();
     table.0[0][1] = 431;
     table
-}
-
-/// A filing of maker 0 whose part is the standard less 1.
-fn filing(edition: u64, set: u64, usage: u64, year: u64) -> Filing {
-    Filing {
-        maker: 0,
-        set,
-        year,
-        usage,
-        edition,
-        family: 0,
-        figures: Figures {
-            fcl: 1,
-            cf: 1,
-            volume: 1,
-            life: 1,
-        },
-    }
 }
 
 /// The standard of a filing, or the number of its refusal. With its family
@@ -263,12 +245,7 @@ fn the_limits_of_a_table_keep_the_book_sound() {
             let largest = Filing {
                 maker,
                 family,
-                figures: Figures {
-                    fcl,
-                    cf: 1_000_000,
-                    volume: 100_000,
-                    life: 500,
-                },
+                figures: at_the_limits(fcl),
                 ..filing(0, set, usage, 2014)
             };
             let answer = post_under(&mut book, &table, &Call::File(largest));

@@ -62,12 +62,7 @@ fn halves_at_a_close() {
 
 #[test]
 fn figures_outside_their_limits_have_no_part() {
-    let within = Figures {
-        fcl: 1,
-        cf: 1_000_000,
-        volume: 100_000,
-        life: 500,
-    };
+    let within = at_the_limits(1);
     assert_eq!(part(627, &within), Some(Part(31_300_000_000_000_000)));
     // Under the greatest standard, the largest part that is sound.
     assert_eq!(part(769, &within), Some(Part(38_400_000_000_000_000)));

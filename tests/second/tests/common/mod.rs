@@ -75,6 +75,34 @@ pub fn say_all(book: &mut Book, lines: &[&str]) {
     }
 }
 
+/// A filing of maker 0 whose part is the standard less 1.
+pub fn filing(edition: u64, set: u64, usage: u64, year: u64) -> Filing {
+    Filing {
+        maker: 0,
+        set,
+        year,
+        usage,
+        edition,
+        family: 0,
+        figures: Figures {
+            fcl: 1,
+            cf: 1,
+            volume: 1,
+            life: 1,
+        },
+    }
+}
+
+/// The largest figures that a filing may have, but for its level.
+pub fn at_the_limits(fcl: u64) -> Figures {
+    Figures {
+        fcl,
+        cf: 1_000_000,
+        volume: 100_000,
+        life: 500,
+    }
+}
+
 /// Files for maker 0 in set 3, use 0.
 pub fn file(book: &mut Book, family: u64, fcl: u64, cf: u64, volume: u64) -> Answer {
     let year = book.open_year;

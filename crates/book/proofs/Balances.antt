@@ -25,7 +25,7 @@ abbrev plus : Key → ℕ → (Key → ℕ) → Key → ℕ
 plus k n f j = f j + only (sameKey k j) n
 
 -- What stands at each key is what was netted there and what came, less what went. Stated as a sum, so that no difference is
--- needed. From the open year Y on nothing was netted yet.
+-- needed. What a list begins with counts as what came, so from the open year Y on nothing was netted yet, whatever the book.
 pub record Tied (Y : ℕ) (l : List ℕ) (net came went : Key → ℕ) : Type 0 where
   pub size : length l ≡ places
   pub balance : (k : Key) → In k → figureAt l k + went k ≡ net k + came k
@@ -102,7 +102,7 @@ module _ {Y : ℕ} {parts : List ℤ} {last : Key → ℕ → ℤ} (h : Families
   families-clear =
       record {
         size = length-replicate allParts (pos 0);
-        current = λ m s f hm hs hf. h .later (key m s (Y + 1)) f (omega arith) ∙ sym (no-part (cell m s) f (omega arith) hf);
+        current = λ m s f hm hs hf. h .later (key m s (Y + 1)) f (omega arith) ∙ sym (no-part (cell m s) f);
         later = λ k f b. h .later k f (omega arith);
       }
 
@@ -118,15 +118,16 @@ module _ {Y : ℕ} {parts : List ℤ} {last : Key → ℕ → ℤ} (h : Families
 pub record Agree (b : Book) (a : Accounts) : Type 0 where
   pub families : Families (b .«open_year») (b .parts) (a .last)
   pub lots :
-      Tied (b .«open_year») (b .lots) (a .earned) (a .mg bought)
+      Tied (b .«open_year») (b .lots) (a .earned) (λ k. a .opening .lot k + a .mg bought k)
       (λ k. a .mg sold k + a .mg applied k + a .mg retired k)
-  pub shortages : Tied (b .«open_year») (b .shortages) (a .shortfall) (λ k. 0) (a .mg covered)
+  pub shortages : Tied (b .«open_year») (b .shortages) (a .shortfall) (a .opening .shortage) (a .mg covered)
 
--- a call that moves Mg leaves the parts and what was netted
+-- a call that moves Mg leaves the parts, what was netted and what the list began with
 pub agree-moved :
     {b : Book} {a : Accounts} {l s : List ℕ} (g : Column → Key → ℕ) → Agree b a
-    → Tied (b .«open_year») l (a .earned) (g bought) (λ k. g sold k + g applied k + g retired k)
-    → Tied (b .«open_year») s (a .shortfall) (λ k. 0) (g covered)
+    → Tied (b .«open_year») l (a .earned) (λ k. a .opening .lot k + g bought k)
+    (λ k. g sold k + g applied k + g retired k)
+    → Tied (b .«open_year») s (a .shortfall) (a .opening .shortage) (g covered)
     → Agree (moved b l s) (withMg a g)
 agree-moved g h lots shortages = record { families = h .families; lots = lots; shortages = shortages }
 

@@ -82,7 +82,7 @@ close-sound b y z g =
       low = omega (arith, s .low);
       high = omega arith;
       bounded = no-part-bounded;
-      unmarked = λ d f hd hf m. no-part d f hd hf;
+      unmarked = λ d f hd hf m. no-part d f;
       shortage = λ k i.
           figure-bound (b .shortages) (shortBy b) Y (z .shortages) (s .low) upto shortageMost k i (s .shortage k i)
           (λ d hd. net-bound (cellSum (b .parts) d) (sum-bound b d s hd) .1);

@@ -7,12 +7,13 @@ use Rattle.figuring.specs.Editions.{alternativeYears, inTable, alternativeFor, 
 use Rattle.figuring.specs.Parts.{between, partOf}
 use Rattle.figuring.specs.Netting.{netOf, nearest, earnedOf, shortfallOf}
 use Rattle.book.specs.Below.{sumBelowℤ}
+use Rattle.book.specs.Ledger.{figureAt, raise}
 use Rattle.book.specs.Postings.{partBeside}
-use Rattle.book.specs.Accounts.{sameKey, only, feed, feedAll, accountsOf}
+use Rattle.book.specs.Accounts.{sameKey, only, feed, feedAll, accountsFrom}
 use Rattle.book.specs.EachAccount.{EachAccount}
 
 pub each-account : EachAccount
-unfolding accountsOf feedAll feed sameKey only sumBelowℤ partBeside ordinaryIn columnOf standardOf isStandard between printedGrid gridFrom gridRow standardUnder alternativeFor alternativeYears inTable standardFor gramsOf tractor vocational printedFor partOf netOf nearest earnedOf shortfallOf
+unfolding accountsFrom feedAll feed figureAt raise sameKey only sumBelowℤ partBeside ordinaryIn columnOf standardOf isStandard between printedGrid gridFrom gridRow standardUnder alternativeFor alternativeYears inTable standardFor gramsOf tractor vocational printedFor partOf netOf nearest earnedOf shortfallOf
 each-account =
     record {
       seller = refl;
@@ -21,5 +22,6 @@ each-account =
       named = (refl, refl, refl, refl);
       lastFigures = (refl, refl, refl, refl, refl);
       ownStandards = (refl, refl, refl, refl);
+      openingFigures = (refl, refl, refl, refl, refl);
       otherSet = refl;
     }

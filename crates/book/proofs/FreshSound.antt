@@ -18,7 +18,7 @@ use Rattle.book.proofs.LedgerLaws.{at-zeros, no-part}
 use Rattle.book.proofs.SoundnessLaws.{is-sound}
 
 pub no-part-bounded : (c f : ℕ) → c < cells → f < families → natAbs (partAt (replicate allParts (pos 0)) c f) ≤ partMost
-no-part-bounded c f hc hf = omega (arith, ap natAbs (no-part c f hc hf))
+no-part-bounded c f hc hf = omega (arith, ap natAbs (no-part c f))
 
 pub empty-sound : (y : ℕ) → firstYear ≤ y → y ≤ allClosed → sound (emptyIn y) ≡ true
 empty-sound y l h =
@@ -26,13 +26,13 @@ empty-sound y l h =
       low = l;
       high = h;
       bounded = no-part-bounded;
-      unmarked = λ c f hc hf m. no-part c f hc hf;
-      shortage = λ k i. omega (arith, at-zeros k i);
-      ahead = λ k i a. (at-zeros k i, at-zeros k i);
+      unmarked = λ c f hc hf m. no-part c f;
+      shortage = λ k i. omega (arith, at-zeros k);
+      ahead = λ k i a. (at-zeros k, at-zeros k);
       total = λ s i hs hi.
           omega (
             arith,
-            sum-zero (lotOf (emptyIn y .lots) s i) makers (λ m hm. at-zeros (key m s (firstYear + i)) (omega arith)),
+            sum-zero (lotOf (emptyIn y .lots) s i) makers (λ m hm. at-zeros (key m s (firstYear + i))),
           );
     })
 

@@ -1,4 +1,4 @@
--- Card 6, of the accounts: a family's part is that of the last accepted filing or amendment of it.
+-- Card 6, of the accounts: a family's part is that of the last accepted filing or amendment of it, or the opening one.
 use Prim.Native.Nat.{ℕ}
 use mathlib.Core.Bool.{Bool, true, false, cond, _&&_}
 use mathlib.Core.List.{List, [], _∷_, _++_}
@@ -8,7 +8,7 @@ use lib.Dec.{eqb}
 use Rattle.figuring.specs.Tables.{Table}
 use Rattle.book.specs.Ledger.{Key}
 use Rattle.book.specs.Postings.{partFor, filingKey}
-use Rattle.book.specs.Accounts.{Accounts, Entry, asAccepted, zeroAccounts, sameKey, move, whenAccepted, feed, feedAll, accountsOf}
+use Rattle.book.specs.Accounts.{Opening, Accounts, Entry, asAccepted, begunWith, sameKey, move, whenAccepted, feed, feedAll, accountsFrom}
 use Rattle.book.specs.Amendments.{NoneOf, CountsLast}
 use Rattle.book.specs.declared.kinds.Call.{Call}
 use Rattle.book.specs.declared.kinds.Filing.{Filing}
@@ -59,10 +59,10 @@ module _ (k : Key) (family : ℕ) where
   counts [] after a t f p q n = leaves-all after (feed a (asAccepted t (Call.File f))) n ∙ sets a t f p q
   counts (e ∷ before) after a t f p q n = counts before after (feed a e) t f p q n
 
-pub counts-last : (es : List Entry) (k : Key) (family : ℕ) → CountsLast es k family
-unfolding accountsOf
-counts-last es k family =
+pub counts-last : (o : Opening) (es : List Entry) (k : Key) (family : ℕ) → CountsLast o es k family
+unfolding accountsFrom
+counts-last o es k family =
     record {
-      last = λ before after t f e p q n. rw e (counts k family before after zeroAccounts t f p q n);
-      none = λ n. leaves-all k family es zeroAccounts n;
+      last = λ before after t f e p q n. rw e (counts k family before after (begunWith o) t f p q n);
+      none = λ n. leaves-all k family es (begunWith o) n;
     }

@@ -9,7 +9,7 @@ use native.Mathlib.Omega.{arith}
 use native.Mathlib.Decide.{ℕ-discrete}
 use borrow.Author.Tests.{eqb-true, eq-eqb, ne-eqb}
 use lib.Dec.{eqb}
-use lib.ListN.{getD, set, replicate, length, length-set, getD-replicate}
+use lib.ListN.{getD, set, replicate, length, length-set}
 use lib.Seq.{getD-set-same, getD-set-other}
 use lib.IntN.{ℤ, pos}
 use Rattle.figuring.specs.Years.{firstYear, lastYear}
@@ -155,8 +155,14 @@ part-stored l c f d g z hf hg h = go (ℕ-discrete c d) (ℕ-discrete f g)
     go (yes p) (no q) = rw (eq-eqb _ _ p, ne-eqb _ _ q) (getD-set-other l (c * families + f) (d * families + g) z (pos 0) (omega arith))
     go (no p) q = rw (ne-eqb _ _ p) (getD-set-other l (c * families + f) (d * families + g) z (pos 0) (omega arith))
 
-pub no-part : (c f : ℕ) → c < cells → f < families → partAt (replicate allParts (pos 0)) c f ≡ pos 0
-no-part c f hc hf = getD-replicate allParts (c * families + f) (pos 0) (pos 0) (omega arith)
+-- n times a is a at every place, past its end too, if a is what stands there
+all-alike : {A : Type 0} (n i : ℕ) (a : A) → getD (replicate n a) i a ≡ a
+all-alike zero i a = refl
+all-alike (suc n) zero a = refl
+all-alike (suc n) (suc i) a = all-alike n i a
+
+pub no-part : (c f : ℕ) → partAt (replicate allParts (pos 0)) c f ≡ pos 0
+no-part c f = all-alike allParts (c * families + f) (pos 0)
 
 -- ── a close at a key: of the year closed, and of another
 pub netted-in : (y : ℕ) (v : ℕ → ℕ) (l : List ℕ) (k : Key) → length l ≡ places → In k → k .year ≡ y → figureAt (netted (y - firstYear) v cells l) k ≡ v (cell (k .maker) (k .set))
@@ -167,6 +173,6 @@ pub netted-out : (y : ℕ) (v : ℕ → ℕ) (l : List ℕ) (k : Key) → In k �
 unfolding figureAt
 netted-out y v l k i h j e = netted-other (y - firstYear) v cells l (place k) (λ c d. omega arith)
 
-pub at-zeros : (k : Key) → In k → figureAt (replicate places 0) k ≡ 0
+pub at-zeros : (k : Key) → figureAt (replicate places 0) k ≡ 0
 unfolding figureAt
-at-zeros k i = getD-replicate places (place k) 0 0 (place-below k i)
+at-zeros k = all-alike {A = ℕ} places (place k) 0

@@ -21,6 +21,7 @@ pub mod Staying
 pub mod FreshSound
 pub mod KeptSound
 pub mod NeverUnsound
+pub mod BegunAnew
 pub mod MarkedFigures
 pub mod EachAccount
 pub mod AmongLaws

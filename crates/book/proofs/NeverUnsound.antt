@@ -1,4 +1,4 @@
--- No list of calls begun on a fresh book makes it unsound, so none is ever answered by refusal 2: a sound book passes the head,
+-- No list of calls begun on a sound book makes it unsound, so none is ever answered by refusal 2: a sound book passes the head,
 -- and no row of a call's own gives 2.
 use mathlib.Core.Bool.{Bool, true, false, not}
 use mathlib.Core.List.{List, [], _∷_}
@@ -11,10 +11,9 @@ use Rattle.figuring.proofs.BoolLaws.{both}
 use Rattle.figuring.specs.Tables.{Table}
 use Rattle.book.specs.Soundness.{sound}
 use Rattle.book.specs.Refusals.{Row, numberOf, refusalIn, orElse, firstRefusal}
-use Rattle.book.specs.Postings.{freshBook}
 use Rattle.book.specs.Rules.{Request, posted, tableRows, ownRows, done}
 use Rattle.book.specs.Demand3.{bookAfter}
-use Rattle.book.specs.Companions.{NeverUnsound}
+use Rattle.book.specs.Companions.{Sized, NeverUnsound}
 use Rattle.book.specs.declared.ledger.Book.{Book}
 use Rattle.book.specs.declared.kinds.Call.{Call}
 use Rattle.book.specs.declared.answers.Refusal.{Refusal}
@@ -22,7 +21,6 @@ use Rattle.book.specs.declared.answers.Verdict.the-variants.{Refuse}
 use Rattle.book.proofs.TableLaws.{by-rows, sound-head}
 use Rattle.book.proofs.RefusalLaws.{accepted-number}
 use Rattle.book.proofs.CallLaws.{lawful, noneGives, beside-not-two, own-not-two}
-use Rattle.book.proofs.FreshSound.{fresh-sound, fresh-sized}
 use Rattle.book.proofs.KeptSound.{sound-after}
 
 -- ---- refusal 2
@@ -49,7 +47,7 @@ never-two t b c s =
     (λ r. refuses-not 2 (ownRows t b c) r (own-not-two t b c))
     (λ h e n. omega (arith, accepted-number (done t b c .answer) (lawful t b c h e .answered)))
 
-pub never-unsound : (rs : List Request) → NeverUnsound rs
-never-unsound rs =
-    let s = sound-after freshBook rs fresh-sized fresh-sound in
-    record { staysSound = s; neverRefused = λ t c. never-two t (bookAfter freshBook rs) c s }
+pub never-unsound : (b : Book) → Sized b → sound b ≡ true → (rs : List Request) → NeverUnsound b rs
+never-unsound b z h rs =
+    let s = sound-after b rs z h in
+    record { staysSound = s; neverRefused = λ t c. never-two t (bookAfter b rs) c s }

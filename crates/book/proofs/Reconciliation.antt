@@ -1,52 +1,53 @@
 -- Demand 3: the relation `Agree` between a book and accounts, which every call keeps, whatever the book and the accounts that it
--- begins with. A fresh book agrees with accounts at zero.
+-- begins with. Any book agrees with the accounts that it opens.
 -- What an accepted call keeps comes from its record, `Lawful`. Nothing here looks into a call's rows, the figuring, the tests of
 -- soundness and life, or the limits; and no call is named but the application, of which demand 3 says more.
 use Prim.Native.Nat.{ℕ, _+_}
 use mathlib.Core.Bool.{true}
 use mathlib.Core.List.{List, [], _∷_, _++_}
-use mathlib.Core.Path.{_≡_, refl, sym, ap}
+use mathlib.Core.Path.{_≡_, refl, ap}
+use mathlib.Core.Logic.{_≢_}
 use native.Mathlib.Omega.{arith}
-use lib.ListN.{replicate, length-replicate}
+use borrow.Author.Tests.{eq-eqb, ne-eqb}
 use lib.IntN.{pos}
-use Rattle.figuring.specs.Years.{firstYear}
 use Rattle.figuring.specs.Tables.{Table}
-use Rattle.book.specs.Sizes.{places, allParts}
-use Rattle.book.specs.Ledger.{Key, In, cell}
-use Rattle.book.specs.Postings.{freshBook, coveredShortage}
+use Rattle.book.specs.Ledger.{Key, key, cell, partAt}
+use Rattle.book.specs.Postings.{coveredShortage}
 use Rattle.book.specs.Rules.{Request, ownRows, posted, postedTo}
-use Rattle.book.specs.Accounts.{Accounts, Entry, asAccepted, zeroAccounts, feed, feedAll, accountsOf}
-use Rattle.book.specs.Demand3.{isAccepted, entryOf, history, bookAfter, Covers, Demand3}
+use Rattle.book.specs.Accounts.{Accounts, Entry, asAccepted, begunWith, feed, feedAll, accountsFrom}
+use Rattle.book.specs.Demand3.{isAccepted, entryOf, history, bookAfter, openingOf, Covers, Demand3}
+use Rattle.book.specs.Companions.{Sized}
 use Rattle.book.specs.declared.ledger.Book.{Book}
 use Rattle.book.specs.declared.kinds.Call.{Call}
 use Rattle.book.specs.declared.kinds.Application.{Application}
 use Rattle.book.proofs.TableLaws.{by-verdict}
 use Rattle.book.proofs.MoveFacts.{Applicable, applicable}
-use Rattle.book.proofs.LedgerLaws.{at-zeros, no-part}
-use Rattle.book.proofs.Balances.{Tied, Agree, agree-reconciled}
+use Rattle.book.proofs.Balances.{Agree, agree-reconciled}
 use Rattle.book.proofs.CallLaws.{lawful}
 
-pub begins : Agree freshBook zeroAccounts
-unfolding freshBook
-begins =
+-- ---- the beginning
+
+-- a book's parts are those of its open year
+pub opening-now :
+    (b : Book) (m s f : ℕ) → openingOf b .part (key m s (b .«open_year»)) f ≡ partAt (b .parts) (cell m s) f
+opening-now b m s f = rw (eq-eqb (b .«open_year») (b .«open_year») refl)
+
+pub opening-else : (b : Book) (k : Key) (f : ℕ) → k .year ≢ b .«open_year» → openingOf b .part k f ≡ pos 0
+opening-else b k f h = rw (ne-eqb (k .year) (b .«open_year») h)
+
+-- The book need not be sound: whatever stands in it, from the open year on too, it begins with.
+pub begins : (b : Book) → Sized b → Agree b (begunWith (openingOf b))
+begins b z =
     record {
       families =
           record {
-            size = length-replicate allParts (pos 0);
-            current = λ m s f hm hs hf. sym (no-part (cell m s) f (omega arith) hf);
-            later = λ k f h. refl;
+            size = z .parts;
+            current = λ m s f hm hs hf. opening-now b m s f;
+            later = λ k f h. opening-else b k f (omega arith);
           };
-      lots = nothing;
-      shortages = nothing;
+      lots = record { size = z .lots; balance = λ k i. omega arith; ahead = λ k i h. refl };
+      shortages = record { size = z .shortages; balance = λ k i. omega arith; ahead = λ k i h. refl };
     }
-  where
-    nothing : Tied firstYear (replicate places 0) (λ k. 0) (λ k. 0) (λ k. 0)
-    nothing =
-        record {
-          size = length-replicate {A = ℕ} places 0;
-          balance = λ k i. omega (arith, at-zeros k i);
-          ahead = λ k i h. refl;
-        }
 
 -- ---- one call
 pub keeps : (b : Book) (a : Accounts) (r : Request) → Agree b a → Agree (postedTo b r .book) (feed a (entryOf b r))
@@ -100,10 +101,10 @@ covers-all (r ∷ rs) b a h (x ∷ before) after t p e =
 
 -- ---- demand 3
 
-pub demand3 : (rs : List Request) → Demand3 rs
-unfolding accountsOf
-demand3 rs =
+pub demand3 : (b : Book) → Sized b → (rs : List Request) → Demand3 b rs
+unfolding accountsFrom
+demand3 b z rs =
     record {
-      reconciled = agree-reconciled _ _ (keeps-all rs freshBook zeroAccounts begins);
-      covers = covers-all rs freshBook zeroAccounts begins;
+      reconciled = agree-reconciled _ _ (keeps-all rs b (begunWith (openingOf b)) (begins b z));
+      covers = covers-all rs b (begunWith (openingOf b)) (begins b z);
     }

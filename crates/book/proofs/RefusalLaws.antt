@@ -19,6 +19,7 @@ use Rattle.book.specs.declared.answers.Refusal.the-variants.{YearNotOpen
 use Rattle.book.specs.declared.answers.Refusal.the-variants.{AlreadyFiled, VintageNotLive, ZeroAmount, SameMaker}
 use Rattle.book.specs.declared.answers.Refusal.the-variants.{HasShortage, NoOpenShortage, AboveLot, AboveShortage}
 use Rattle.book.specs.declared.answers.Refusal.the-variants.{NoEdition, NotFiled, NotATable, UnfitTable}
+use Rattle.book.specs.declared.answers.Refusal.the-variants.{ShortBuffer, NotABook}
 use Rattle.book.proofs.TableLaws.{by-verdict}
 use Rattle.book.proofs.CallLaws.{lawful}
 
@@ -43,6 +44,8 @@ number-above-0 NoEdition = omega arith
 number-above-0 NotFiled = omega arith
 number-above-0 NotATable = omega arith
 number-above-0 UnfitTable = omega arith
+number-above-0 ShortBuffer = omega arith
+number-above-0 NotABook = omega arith
 
 -- ---- what an answer says of itself
 pub accepted-number : (a : Answer) → isAccepted a ≡ true → refusalIn a ≡ 0

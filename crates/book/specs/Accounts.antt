@@ -40,18 +40,29 @@ columnNumber applied = 2
 columnNumber retired = 3
 columnNumber covered = 4
 
+-- Card 8: "balances count from its lots, shortages and filed parts as opening figures". A lot and a shortage of each
+-- key, in Mg, and the part of each family of it.
+pub record Opening : Type 0 where
+  pub lot : Key → ℕ
+  pub shortage : Key → ℕ
+  pub part : Key → ℕ → ℤ
+
 -- "For each maker, set and year 2014 to 2037 there are a sum in part units and, in Mg, earned, shortfall, bought,
 -- sold, applied, retired and covered. All are exact whole numbers without bound and start at zero." Kept here for any
 -- key: Demand3 speaks of those of the book. Since card 6 the sum is that of a part for each family number.
 pub record Accounts : Type 0 where
+  -- what they began with: no call moves it
+  pub opening : Opening
   -- the part of a family, as it was last accepted
   pub last : Key → ℕ → ℤ
   pub earned : Key → ℕ
   pub shortfall : Key → ℕ
   pub mg : Column → Key → ℕ
 
-abbrev pub zeroAccounts : Accounts
-zeroAccounts = record { last = λ k f. pos 0; earned = λ k. 0; shortfall = λ k. 0; mg = λ c k. 0 }
+-- Accounts before the first call: the parts are the opening ones, and all else starts at zero. A family that is neither
+-- filed nor amended counts with its opening part.
+abbrev pub begunWith : Opening → Accounts
+begunWith o = record { opening = o; last = o .part; earned = λ k. 0; shortfall = λ k. 0; mg = λ c k. 0 }
 
 unfoldable pub sameKey : Key → Key → Bool
 sameKey k j = eqb (k .maker) (j .maker) && (eqb (k .set) (j .set) && eqb (k .year) (j .year))
@@ -86,13 +97,14 @@ inYear y v f j = cond (eqb (j .year) y) (v j) (f j)
 
 -- the columns as g says, and the rest as before
 abbrev pub withMg : Accounts → (Column → Key → ℕ) → Accounts
-withMg a g = record { last = a .last; earned = a .earned; shortfall = a .shortfall; mg = g }
+withMg a g = record { opening = a .opening; last = a .last; earned = a .earned; shortfall = a .shortfall; mg = g }
 
 abbrev pub move : Table → Accounts → Call → Accounts
 -- "its part, figured from its own arguments, is added to the sum of its maker, set and year"; of a filing and its
 -- amendments the last: "a family counts with its last accepted figures of that year"
 move t a (Call.File f) =
     record {
+      opening = a .opening;
       last = put (filingKey f) (f .family) (partFor t f) (a .last);
       earned = a .earned;
       shortfall = a .shortfall;
@@ -102,6 +114,7 @@ move t a (Call.File f) =
 -- without its sign, shortfall"
 move t a (Call.Close y) =
     record {
+      opening = a .opening;
       last = a .last;
       earned = inYear y (earnedAt a) (a .earned);
       shortfall = inYear y (shortfallAt a) (a .shortfall);
@@ -126,6 +139,13 @@ unfoldable pub feedAll : Accounts → List Entry → Accounts
 feedAll a [] = a
 feedAll a (e ∷ es) = feedAll (feed a e) es
 
--- the accounts of a history
-unfoldable pub accountsOf : List Entry → Accounts
-accountsOf es = feedAll zeroAccounts es
+-- the accounts of a history, begun with opening figures
+unfoldable pub accountsFrom : Opening → List Entry → Accounts
+accountsFrom o es = feedAll (begunWith o) es
+
+-- and begun with none, as on a fresh book: document 01's "start at zero"
+abbrev pub zeroOpening : Opening
+zeroOpening = record { lot = λ k. 0; shortage = λ k. 0; part = λ k f. pos 0 }
+
+abbrev pub accountsOf : List Entry → Accounts
+accountsOf es = accountsFrom zeroOpening es

@@ -6,7 +6,6 @@ use mathlib.Core.List.{List, _∷_, _++_}
 use mathlib.Core.Path.{_≡_}
 use lib.Dec.{eqb}
 use lib.ListN.{getD, set as store}
-use lib.IntN.{pos}
 use Rattle.figuring.specs.Tables.{Table}
 use Rattle.book.specs.Filings.{withAmends}
 use Rattle.book.specs.Sizes.{families}
@@ -14,7 +13,7 @@ use Rattle.book.specs.Ledger.{Key, filedIn}
 use Rattle.book.specs.Refusals.{refusalIn}
 use Rattle.book.specs.Postings.{partFor, filingCell, filingKey, withFamilies}
 use Rattle.book.specs.Rules.{posted}
-use Rattle.book.specs.Accounts.{Entry, asAccepted, accountsOf}
+use Rattle.book.specs.Accounts.{Opening, Entry, asAccepted, accountsFrom}
 use Rattle.book.specs.Demand3.{isAccepted}
 use Rattle.book.specs.Companions.{Sized}
 use Rattle.book.specs.Orders.{Among}
@@ -76,16 +75,16 @@ abbrev pub LastCounts : Table → Table → Book → Filing → Filing → Type 
 LastCounts t u b f g =
     Sized b → isAccepted (posted t b (Call.File f) .answer) ≡ true → familyOf f ≡ familyOf g → AsInItsPlace t u b f g
 
--- In the accounts: the part of a family of a year is that of the last accepted filing or amendment of it, and 0 where
--- there is none.
+-- In the accounts: the part of a family of a year is that of the last accepted filing or amendment of it, and the
+-- opening one where there is none. So an amendment replaces an opening part too.
 -- no entry of a history is an accepted filing or amendment of the family
 abbrev pub NoneOf : List Entry → Key → ℕ → Type 0
 NoneOf es k family =
     (t : Table) (f : Filing) → Among (asAccepted t (Call.File f)) es → filingKey f ≡ k → f .family ≡ family → ⊥
 
-pub record CountsLast (es : List Entry) (k : Key) (family : ℕ) : Type 0 where
+pub record CountsLast (o : Opening) (es : List Entry) (k : Key) (family : ℕ) : Type 0 where
   pub last :
       (before after : List Entry) (t : Table) (f : Filing)
       → es ≡ before ++ asAccepted t (Call.File f) ∷ after → filingKey f ≡ k → f .family ≡ family → NoneOf after k family
-      → accountsOf es .last k family ≡ partFor t f
-  pub none : NoneOf es k family → accountsOf es .last k family ≡ pos 0
+      → accountsFrom o es .last k family ≡ partFor t f
+  pub none : NoneOf es k family → accountsFrom o es .last k family ≡ o .part k family

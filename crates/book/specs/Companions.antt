@@ -5,7 +5,6 @@ use mathlib.Core.Path.{_≡_}
 use lib.ListN.{length}
 use Rattle.book.specs.Sizes.{cells, places, allParts}
 use Rattle.book.specs.Soundness.{sound}
-use Rattle.book.specs.Postings.{freshBook}
 use Rattle.book.specs.Ledger.{Key, figureAt}
 use Rattle.figuring.specs.Life.{expired, overdue}
 use Rattle.book.specs.Refusals.{refusalIn}
@@ -26,10 +25,10 @@ pub record Sized (b : Book) : Type 0 where
 abbrev pub KeepsSound : Table → Book → Call → Type 0
 KeepsSound t b c = Sized b → sound b ≡ true → Sized (posted t b c .book) × (sound (posted t b c .book) ≡ true)
 
--- No list begun on a fresh book is ever answered by refusal 2, and its book stays sound.
-pub record NeverUnsound (rs : List Request) : Type 0 where
-  pub staysSound : sound (bookAfter freshBook rs) ≡ true
-  pub neverRefused : (t : Table) (c : Call) → refusalIn (posted t (bookAfter freshBook rs) c .answer) ≡ 2 → ⊥
+-- No list begun on a sound book is ever answered by refusal 2, and its book stays sound.
+pub record NeverUnsound (b : Book) (rs : List Request) : Type 0 where
+  pub staysSound : sound (bookAfter b rs) ≡ true
+  pub neverRefused : (t : Table) (c : Call) → refusalIn (posted t (bookAfter b rs) c .answer) ≡ 2 → ⊥
 
 abbrev pub keepIf : Bool → Request → List Request → List Request
 keepIf true r rs = r ∷ rs

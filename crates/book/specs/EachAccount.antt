@@ -1,14 +1,19 @@
 -- Each account by itself, on a history that a reader can add up by hand. Demand 3 holds the accounts together, as a
 -- sum: it would hold as well if a sale were entered under applied. Here each stands alone.
-use Prim.Native.Nat.{ℕ}
+use Prim.Native.Nat.{ℕ, _+_, _*_}
 use mathlib.Core.Bool.{Bool, true, false}
 use mathlib.Core.List.{List, [], _∷_}
 use mathlib.Core.Path.{_≡_}
-use lib.ListN.{replicate}
+use lib.ListN.{replicate, set as store}
+use lib.IntN.{pos}
 use Rattle.figuring.specs.Tables.{Table, builtIn}
-use Rattle.book.specs.Ledger.{Key, key}
-use Rattle.book.specs.Accounts.{Accounts, Entry, asAccepted as acceptedWith, accountsOf, bought, sold, applied, retired, covered}
+use Rattle.book.specs.Sizes.{cells, families, places, allParts}
+use Rattle.book.specs.Ledger.{Key, key, cell, raise}
+use Rattle.book.specs.Accounts.{Accounts, Entry, asAccepted as acceptedWith, accountsFrom, accountsOf}
+use Rattle.book.specs.Accounts.{bought, sold, applied, retired, covered}
+use Rattle.book.specs.Demand3.{openingOf}
 use Rattle.book.specs.Marked.{filingWith}
+use Rattle.book.specs.declared.ledger.Book.{Book}
 use Rattle.book.specs.declared.kinds.Call.{Call}
 
 -- with the built-in table
@@ -113,6 +118,37 @@ ownTables =
     ∷ asAccepted (Call.Close 2025)
     ∷ []
 
+-- Card 8: a book read in, whose open year is 2025. Of heavy families maker 0 has a lot of 500 Mg and two filed ones of 5
+-- and 3 Mg, maker 1 a shortage of 80 Mg and a filed one of 6 Mg.
+abbrev pub readIn : Book
+readIn =
+    record {
+      «open_year» = 2025;
+      marks = store (store (replicate cells 0) (cell 0 3) 3) (cell 1 3) 1;
+      parts =
+          store
+          (store (store (replicate allParts (pos 0)) (cell 0 3 * families) (pos 500000000)) (cell 0 3 * families + 1)
+          (pos 300000000)) (cell 1 3 * families) (pos 600000000);
+      lots = raise (replicate places 0) (key 0 3 2024) 500;
+      shortages = raise (replicate places 0) (key 1 3 2023) 80;
+    }
+
+-- The lot is traded from and retired, and the shortage covered; the 5 Mg, amended, become -2, the 3 stay, and a family
+-- filed brings 4; maker 1's 6 stay: their amendment was refused
+abbrev pub begunOnIt : List Entry
+begunOnIt =
+    asAccepted (Call.Trade (record { from = 0; to = 1; set = 3; vintage = 2024; mg = 200 }))
+    ∷ asAccepted (Call.Retire (record { maker = 0; set = 3; vintage = 2024; mg = 5 }))
+    ∷ asAccepted (Call.Apply (record { maker = 1; set = 3; vintage = 2024; year = 2023; mg = 30 }))
+    ∷ amends 0 2025 0 508
+    ∷ files 0 2025 2 502
+    ∷ turnedDown (amends 1 2025 0 506 .call)
+    ∷ asAccepted (Call.Close 2025)
+    ∷ []
+
+abbrev pub afterReading : Accounts
+afterReading = accountsFrom (openingOf readIn) begunOnIt
+
 -- the Mg at a key in document 01's order: "earned, shortfall, bought, sold, applied, retired and covered"
 abbrev pub mgAt : Accounts → Key → List ℕ
 mgAt a k =
@@ -124,6 +160,10 @@ mgAt a k =
     ∷ a .mg retired k
     ∷ a .mg covered k
     ∷ []
+
+-- the same after the opening lot and the opening shortage
+abbrev pub fromOpening : Accounts → Key → List ℕ
+fromOpening a k = a .opening .lot k ∷ a .opening .shortage k ∷ mgAt a k
 
 pub record EachAccount : Type 0 where
   pub seller : mgAt (accountsOf example) (key 0 3 2014) ≡ 12180 ∷ 0 ∷ 0 ∷ 200 ∷ 0 ∷ 5 ∷ 0 ∷ []
@@ -147,4 +187,11 @@ pub record EachAccount : Type 0 where
       × (accountsOf ownTables .earned (key 1 3 2025) ≡ 1)
       × (accountsOf ownTables .earned (key 2 3 2025) ≡ 3)
       × (accountsOf ownTables .earned (key 3 3 2025) ≡ 7)
+  -- the lot and the shortage opened with, the buyer's lot, and what each maker earned in the open year
+  pub openingFigures :
+      (fromOpening afterReading (key 0 3 2024) ≡ 500 ∷ 0 ∷ 0 ∷ 0 ∷ 0 ∷ 200 ∷ 0 ∷ 5 ∷ 0 ∷ [])
+      × (fromOpening afterReading (key 1 3 2023) ≡ 0 ∷ 80 ∷ 0 ∷ 0 ∷ 0 ∷ 0 ∷ 0 ∷ 0 ∷ 30 ∷ [])
+      × (fromOpening afterReading (key 1 3 2024) ≡ 0 ∷ 0 ∷ 0 ∷ 0 ∷ 200 ∷ 0 ∷ 30 ∷ 0 ∷ 0 ∷ [])
+      × (fromOpening afterReading (key 0 3 2025) ≡ 0 ∷ 0 ∷ 5 ∷ 0 ∷ 0 ∷ 0 ∷ 0 ∷ 0 ∷ 0 ∷ [])
+      × (fromOpening afterReading (key 1 3 2025) ≡ 0 ∷ 0 ∷ 6 ∷ 0 ∷ 0 ∷ 0 ∷ 0 ∷ 0 ∷ 0 ∷ [])
   pub otherSet : mgAt (accountsOf example) (key 0 2 2014) ≡ 0 ∷ 0 ∷ 0 ∷ 0 ∷ 0 ∷ 0 ∷ 0 ∷ []

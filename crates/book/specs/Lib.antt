@@ -10,6 +10,7 @@ pub mod Accounts
 pub mod Demand3
 pub mod Demand1
 pub mod Companions
+pub mod BegunAnew
 pub mod Orders
 pub mod FilingOrder
 pub mod FiveDecimals

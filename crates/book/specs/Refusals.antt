@@ -10,6 +10,7 @@ use Rattle.book.specs.declared.answers.Refusal.the-variants.{YearNotOpen
 use Rattle.book.specs.declared.answers.Refusal.the-variants.{AlreadyFiled, VintageNotLive, ZeroAmount, SameMaker}
 use Rattle.book.specs.declared.answers.Refusal.the-variants.{HasShortage, NoOpenShortage, AboveLot, AboveShortage}
 use Rattle.book.specs.declared.answers.Refusal.the-variants.{NoEdition, NotFiled, NotATable, UnfitTable}
+use Rattle.book.specs.declared.answers.Refusal.the-variants.{ShortBuffer, NotABook}
 use Rattle.book.specs.declared.answers.Answer.{Answer}
 use Rattle.book.specs.declared.answers.Answer.the-variants.{Refused, Filed, Closed, Left}
 use Rattle.book.specs.declared.answers.Verdict.{Verdict}
@@ -57,6 +58,11 @@ numberOf NotFiled = 18
 numberOf NotATable = 19
 -- Card 7: an entry of the table breaks the limits or rises.
 numberOf UnfitTable = 20
+-- Card 8: the lent buffer is shorter than the text.
+numberOf ShortBuffer = 21
+-- Card 8: a line of a written book is missing, malformed, out of order or repeated, or a maker, set, number or year in it
+-- isn't one of the book's (text only).
+numberOf NotABook = 22
 
 -- the number of an answer's refusal, 0 where the call was accepted
 unfoldable pub refusalIn : Answer → ℕ

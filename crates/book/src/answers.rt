@@ -27,6 +27,8 @@ pub enum Refusal {
     NotFiled,
     NotATable,
     UnfitTable,
+    ShortBuffer,
+    NotABook,
 }
 
 pub enum Answer {
@@ -76,5 +78,7 @@ pub fn refusal_number(r: Refusal) -> u64
         Refusal::NotFiled => 18,
         Refusal::NotATable => 19,
         Refusal::UnfitTable => 20,
+        Refusal::ShortBuffer => 21,
+        Refusal::NotABook => 22,
     }
 }

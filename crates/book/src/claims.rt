@@ -6,11 +6,13 @@ ghost use mathlib.Core.List.{List};
 ghost use mathlib.Core.Path.{_≡_};
 ghost use Rattle.figuring.specs.Tables.{Table};
 ghost use Rattle.book.specs.Ledger.{Key, In};
+ghost use Rattle.book.specs.Soundness.{sound};
 ghost use Rattle.book.specs.Rules.{CheckingOrder, Request};
-ghost use Rattle.book.specs.Accounts.{Entry};
+ghost use Rattle.book.specs.Accounts.{Entry, Opening};
 ghost use Rattle.book.specs.Demand1.{Demand1};
 ghost use Rattle.book.specs.Demand3.{Demand3};
-ghost use Rattle.book.specs.Companions.{KeepsSound, NeverUnsound, Stays, StrikeOut};
+ghost use Rattle.book.specs.Companions.{KeepsSound, NeverUnsound, Sized, Stays, StrikeOut};
+ghost use Rattle.book.specs.BegunAnew.{BegunFresh, FreshBegins, OpeningStays};
 ghost use Rattle.book.specs.FilingOrder.{FilingOrder, EachAlone, Lodged, SaysNoLess};
 ghost use Rattle.book.specs.FiveDecimals.{SameSessions, SoundParts};
 ghost use Rattle.book.specs.Editions.{ElseTheSame, Reaches6, SixThenSeventeen, UnderNamed};
@@ -36,9 +38,19 @@ pub fn checking_order() -> bool
     true
 }
 
-// Demand 3.
+// Demand 3, of any list begun on any book: that its arrays are as long as they are is said by the struct's type.
 pub fn reconciles() -> bool
-    ensures { λ r. ⌜ (r ≡ true) × ((rs : List Request) → Demand3 rs) ⌝ }
+    ensures { λ r. ⌜ (r ≡ true) × ((b : Book) → Sized b → (rs : List Request) → Demand3 b rs) ⌝ }
+{
+    true
+}
+
+// Card 8: no call moves the opening figures; a fresh book is sound and has none, so that demand 3 begun on it is
+// document 01's.
+pub fn begins_anew() -> bool
+    ensures { λ r. ⌜ (r ≡ true) × ((o : Opening) (es : List Entry) → OpeningStays o es)
+        × FreshBegins
+        × ((rs : List Request) → BegunFresh rs) ⌝ }
 {
     true
 }
@@ -50,9 +62,10 @@ pub fn keeps_sound() -> bool
     true
 }
 
-// No list begun on a fresh book meets refusal 2.
+// No list begun on a sound book meets refusal 2.
 pub fn never_unsound() -> bool
-    ensures { λ r. ⌜ (r ≡ true) × ((rs : List Request) → NeverUnsound rs) ⌝ }
+    ensures { λ r. ⌜ (r ≡ true)
+        × ((b : Book) → Sized b → sound b ≡ true → (rs : List Request) → NeverUnsound b rs) ⌝ }
 {
     true
 }
@@ -135,7 +148,7 @@ pub fn amended() -> bool
 // A family counts with its last accepted figures of the year, in the book and in the accounts.
 pub fn last_counts() -> bool
     ensures { λ r. ⌜ (r ≡ true) × ((t u : Table) (b : Book) (f g : Filing) → LastCounts t u b f g)
-        × ((es : List Entry) (k : Key) (family : ℕ) → CountsLast es k family) ⌝ }
+        × ((o : Opening) (es : List Entry) (k : Key) (family : ℕ) → CountsLast o es k family) ⌝ }
 {
     true
 }

@@ -71,7 +71,8 @@ pub fn shortage_entry(
     ShortageEntry::NoShortage
 }
 
-fn is_cell_year(maker: u64, set: u64, year: u64) -> bool
+// Whether a maker, a set and a year are the book's.
+pub fn is_cell_year(maker: u64, set: u64, year: u64) -> bool
     ensures { λ r. ⌜ r ≡ isCellYear maker set year ⌝ }
 {
     if maker >= MAKERS {

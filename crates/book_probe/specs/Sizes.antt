@@ -1,7 +1,8 @@
--- How long a record and its answer are, in bytes.
+-- How long a record and its answer are, and the buffer for the bytes after it, in bytes.
 use Prim.Native.Nat.{ℕ, _+_, _*_}
 use Rattle.figuring.specs.Grid.{gridYears, gridColumns}
 use Rattle.book.specs.Sizes.{cells, allParts, places}
+use Rattle.text.specs.BookText.{bookRoom}
 
 -- the open year, the marks, the parts, the lots and the shortages
 abbrev pub bookBytes : ℕ
@@ -14,3 +15,7 @@ recordBytes = bookBytes + 8 * 11 + 8 * (gridYears * gridColumns)
 -- soundness, the refusal and two values, and the book
 abbrev pub answerBytes : ℕ
 answerBytes = 8 * 4 + bookBytes
+
+-- one byte more than any book's text has
+abbrev pub textBytes : ℕ
+textBytes = bookRoom + 1

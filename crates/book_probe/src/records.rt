@@ -1,4 +1,5 @@
-// Records: a book, a call and a table in, whether the book is sound, the answer and the book after it out.
+// Records: a book, a call and a table in, whether the book is sound, the answer and the book after it out. What a record
+// of a text gets is in texts.rt.
 ghost use mathlib.Core.Path.{_≡_};
 ghost use Prim.Native.Nat.{_+_, _≤_};
 ghost use lib.ListN.{length};
@@ -46,9 +47,10 @@ pub(crate) const RECORD: usize = TABLE + ROW * YEARS;
 // Where the book begins in an answer: after its soundness, its refusal and two values.
 const AFTER: usize = 8 * 4;
 
-// What a record asks: a call, or what is none.
+// What a record asks: a call, a text of so many bytes, or what is none.
 pub enum Asked {
     Post(Call),
+    Text(u64),
     Unknown,
 }
 
@@ -59,45 +61,31 @@ pub struct Figures {
     pub second: u64,
 }
 
-// Whether the record's call is of a kind that is known; only then is it answered.
-pub(crate) fn answer_record(input: &[u8], out: &mut [u8]) -> bool
-    requires { ⌜ (recordBytes ≡ length (now input)) × (answerBytes ≡ length (now out)) ⌝ }
-{
-    let asked = asked_of(input);
-    let Asked::Post(call) = asked else {
-        return false;
-    };
-    answer_call(input, call, out);
-    true
-}
-
-fn answer_call(input: &[u8], call: Call, out: &mut [u8])
+pub(crate) fn answer_call(input: &[u8], call: Call, out: &mut [u8])
     requires { ⌜ (recordBytes ≡ length (now input)) × (answerBytes ≡ length (now out)) ⌝ }
 {
     let book = book_of(input);
-    let sound = is_sound(book);
     let posted = post(book, table_of(input), call);
     let answer = posted.answer;
     let after = posted.book;
-    put_answer(out, sound, answer);
-    put_book(&mut out[AFTER..], after);
+    put_answer(out, is_sound(book), figures_of(answer), after);
 }
 
-fn put_answer(out: &mut [u8], sound: bool, answer: Answer)
-    requires { ⌜ 32 ≤ length (now out) ⌝ }
+pub(crate) fn put_answer(out: &mut [u8], sound: bool, figures: Figures, after: Book)
+    requires { ⌜ answerBytes ≡ length (now out) ⌝ }
 {
-    let figures = figures_of(answer);
     put_word(out, 0, one_if(sound));
     put_word(out, 8, figures.refusal);
     put_word(out, 16, figures.first);
     put_word(out, 24, figures.second);
+    put_book(&mut out[AFTER..], after);
 }
 
 fn one_if(b: bool) -> u64 {
     if b { 1 } else { 0 }
 }
 
-fn book_of(input: &[u8]) -> Book
+pub(crate) fn book_of(input: &[u8]) -> Book
     requires { ⌜ recordBytes ≡ length (now input) ⌝ }
 {
     let mut marks = [0u64; 32];
@@ -152,7 +140,7 @@ fn argument(input: &[u8], place: usize) -> u64
     word(input, ARGUMENTS + 8 * place)
 }
 
-fn asked_of(input: &[u8]) -> Asked
+pub(crate) fn asked_of(input: &[u8]) -> Asked
     requires { ⌜ recordBytes ≡ length (now input) ⌝ }
 {
     let kind = word(input, KIND);
@@ -180,6 +168,7 @@ fn asked_of(input: &[u8]) -> Asked
             mg: argument(input, 3),
         })),
         5 => Asked::Post(Call::File(filing_of(input, true))),
+        6 => Asked::Text(argument(input, 0)),
         _ => Asked::Unknown,
     }
 }

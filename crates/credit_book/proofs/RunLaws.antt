@@ -4,6 +4,7 @@ use mathlib.Core.Bool.{Bool}
 use mathlib.Core.Path.{_≡_, refl, sym, ap, _∙_}
 use mathlib.Core.List.{List, [], _∷_, _++_, append-assoc}
 use Rattle.figuring.specs.Tables.{Table}
+use Rattle.book.specs.declared.ledger.Book.{Book}
 use Rattle.text.specs.Desk.{Terminal, takesAll, ends}
 use Rattle.text.specs.Listing.{listing}
 use Rattle.text.specs.Program.{opened, written, joined, terminal, inChunks}
@@ -24,12 +25,12 @@ module _ (t : Table) where
   after-more x (d ∷ cs) c = after-more (written (takesAll t x d)) cs c
 
   taken :
-      (chunks : List (List ℕ)) (x : Terminal) (more fine : Bool) → Reading t chunks x more fine
-      → x ≡ after t opened chunks
+      (b : Book) (chunks : List (List ℕ)) (x : Terminal) (more fine : Bool) → Reading t b chunks x more fine
+      → x ≡ after t (opened b) chunks
   unfolding after
-  taken _ _ _ _ Reading.begun = refl
-  taken _ _ _ _ (Reading.turn {chunks} {x} {before} chunk got interrupted wrote g e h) =
-      rw (after-more opened chunks chunk, taken chunks x _ before g)
+  taken b _ _ _ _ Reading.begun = refl
+  taken b _ _ _ _ (Reading.turn {chunks} {x} {before} chunk got interrupted wrote g e h) =
+      rw (after-more (opened b) chunks chunk, taken b chunks x _ before g)
 
   in-turns :
       (x : Terminal) (cs : List (List ℕ)) → inChunks t x cs ≡ saidTo t x cs
@@ -41,7 +42,7 @@ module _ (t : Table) where
       ∙ sym (append-assoc (takesAll t x c .said) (saidTo t (written (takesAll t x c)) cs) _)
 
   pub whole-run :
-      (chunks : List (List ℕ)) (x : Terminal) (more fine : Bool) → Reading t chunks x more fine
-      → saidTo t opened chunks ++ (ends t x .said ++ listing (ends t x .book)) ≡ terminal t (joined chunks)
-  whole-run chunks x more fine g =
-      rw (taken chunks x more fine g) (sym (in-turns opened chunks) ∙ any-chunks t chunks)
+      (b : Book) (chunks : List (List ℕ)) (x : Terminal) (more fine : Bool) → Reading t b chunks x more fine
+      → saidTo t (opened b) chunks ++ (ends t x .said ++ listing (ends t x .book)) ≡ terminal t b (joined chunks)
+  whole-run b chunks x more fine g =
+      rw (taken b chunks x more fine g) (sym (in-turns (opened b) chunks) ∙ any-chunks t b chunks)

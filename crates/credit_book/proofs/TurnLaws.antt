@@ -14,6 +14,7 @@ use mir.Facts.{toZ-ofZ}
 use lib.ListN.{length, length-append}
 use lib.Seq.{length-take-le}
 use Rattle.figuring.specs.Tables.{Table}
+use Rattle.book.specs.declared.ledger.Book.{Book}
 use Rattle.text.specs.declared.desk.Desk.{Desk}
 use Rattle.text.specs.declared.desk.Reply.{Reply}
 use Rattle.text.specs.Desk.{Terminal, Serves, atDesk, openDesk, ends}
@@ -39,15 +40,23 @@ delivered s e h =
 
 -- ---- the reading
 -- the loop's invariant: what has been read so far
-pub record SoFar (t : Table) (out₀ out : List ℕ) (d : Desk) (turns : ℕ) (more fine : Bool) : Type 0 where
+pub record SoFar (t : Table) (b : Book) (out₀ out : List ℕ) (d : Desk) (turns : ℕ) (more fine : Bool) : Type 0 where
   pub long : length out ≡ length out₀
   pub within : turns ≤ mostTurns
   pub chunks : List (List ℕ)
-  pub reading : Reading t chunks (atDesk d) more fine
+  pub reading : Reading t b chunks (atDesk d) more fine
   pub counts : turns ≡ length chunks
 
-pub none-yet : {t : Table} {out : List ℕ} {d : Desk} → d ≡ openDesk → SoFar t out out d 0 true true
+pub none-yet :
+    {t : Table} {b : Book} {out : List ℕ} {d : Desk} → d ≡ openDesk b → SoFar t (d .book) out out d 0 true true
 none-yet e = record { long = refl; within = omega arith; chunks = []; reading = rw e Reading.begun; counts = refl }
+
+-- the first desk's book is the one that it was opened with
+pub on-its-book :
+    {t : Table} {b : Book} {d : Desk} {chunks : List (List ℕ)} {x : Terminal} {more fine : Bool} → d ≡ openDesk b
+    → Reading t (d .book) chunks x more fine → Reading t b chunks x more fine
+on-its-book {t = t} {chunks = chunks} {x = x} {more = more} {fine = fine} e g =
+    subst (λ (b : Book). Reading t b chunks x more fine) (ap (λ (d : Desk). d .book) e) g
 
 -- as many bytes as the read answered
 as-long :
@@ -57,13 +66,13 @@ as-long (negsuc k) buffer e = length-take-le 0 buffer (omega arith)
 
 -- one turn more; the loop holds what the read answered as its bits
 pub next :
-    {t : Table} {out₀ out out′ : List ℕ} {d : Desk} {turns : ℕ} {on before more fine : Bool} {r : Turn}
-    → on ≡ true → turns < mostTurns → SoFar t out₀ out d turns on before → Turned t d out r out′
+    {t : Table} {b : Book} {out₀ out out′ : List ℕ} {d : Desk} {turns : ℕ} {on before more fine : Bool} {r : Turn}
+    → on ≡ true → turns < mostTurns → SoFar t b out₀ out d turns on before → Turned t d out r out′
     → SFits w64 (r .got)
     → fine ≡ turnFine (toZ w64 (ofZ w64 (r .got))) (r .interrupted) (r .wrote .fine)
     → more ≡ readsOn (toZ w64 (ofZ w64 (r .got))) fine
-    → SoFar t out₀ out′ (r .desk) (turns + 1) more fine
-next {t = t} {d = d} {before = before} {r = r} o h g s z f m =
+    → SoFar t b out₀ out′ (r .desk) (turns + 1) more fine
+next {t = t} {b = b} {d = d} {before = before} {r = r} o h g s z f m =
     record {
       long = same-long (s .delivered .stands) ∙ g .long;
       within = omega arith;
@@ -71,7 +80,7 @@ next {t = t} {d = d} {before = before} {r = r} o h g s z f m =
       reading =
           rw (m, f, toZ-ofZ z, s .delivered .desk-is)
           (Reading.turn (firstBytes (r .got) (s .buffer)) (r .got) (r .interrupted) (r .wrote)
-          (subst (λ (b : Bool). Reading t (g .chunks) (atDesk d) b before) o (g .reading))
+          (subst (λ (e : Bool). Reading t b (g .chunks) (atDesk d) e before) o (g .reading))
           (as-long (r .got) (s .buffer) (s .long)) (s .delivered .stands .end-is ∙ zero-add _));
       counts = rw (length-append (g .chunks) (firstBytes (r .got) (s .buffer) ∷ [])) (omega (arith, g .counts));
     }
@@ -110,19 +119,22 @@ module _ {t : Table} {x : Terminal} {out out′ : List ℕ} {said : Said} {liste
     (s : Delivered (ends t x) out (said .desk) (said .wrote) out′) where
   pub lists :
       {out″ : List ℕ} → said .wrote .fine ≡ true → Stands (listing (said .desk .book)) 0 out′ (listed .handed) out″
-      → ClosedBy t x (record { last = said .wrote; listed = listed })
+      → ClosedBy t x (record { last = said .wrote; listed = listed; book = said .desk .book })
   lists f l =
       record {
         handed-is = s .stands .end-is ∙ zero-add _;
         listed-is = λ _. l .end-is ∙ zero-add _ ∙ ap (λ (u : Terminal). length (listing (u .book))) (s .desk-is);
         unlisted = λ e. absurd (true≢false (sym f ∙ e));
+        book-is = ap (λ (u : Terminal). u .book) (s .desk-is);
       }
 
   pub lists-nothing :
-      said .wrote .fine ≡ false → listed .handed ≡ 0 → ClosedBy t x (record { last = said .wrote; listed = listed })
+      said .wrote .fine ≡ false → (listed .handed ≡ 0) × (listed .fine ≡ false)
+      → ClosedBy t x (record { last = said .wrote; listed = listed; book = said .desk .book })
   lists-nothing f l =
       record {
         handed-is = s .stands .end-is ∙ zero-add _;
         listed-is = λ e. absurd (true≢false (sym e ∙ f));
         unlisted = λ _. l;
+        book-is = ap (λ (u : Terminal). u .book) (s .desk-is);
       }

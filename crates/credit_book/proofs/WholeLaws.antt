@@ -1,101 +1,60 @@
--- The program in all, in each case of what became of std.txt.
+-- The program in all, in each case of what came before a run.
 use Prim.Native.Nat.{ℕ}
 use native.Mathlib.Omega.{arith}
-use mathlib.Core.Logic.{inl, inr}
-use mathlib.Core.Bool.{Bool, true, false}
 use mathlib.Core.Path.{_≡_, sym, ap, subst, _∙_}
-use mathlib.Core.List.{List, [], _∷_}
-use lib.IntN.{ℤ, pos, negsuc}
-use denote.Enum.Declared.{tagOf}
-use types.Run.{OneOf}
+use mathlib.Core.List.{List}
 use Rattle.figuring.specs.Tables.{Table, builtIn}
 use Rattle.book.specs.declared.answers.Refusal.{Refusal}
 use Rattle.book.specs.declared.answers.Answer.{Answer}
 use Rattle.text.specs.Answers.{textOf}
 use Rattle.text.specs.Placing.{Stands}
-use Rattle.text.specs.TableText.{table, refused}
-use Rattle.credit_book.specs.declared.Wrote.{Wrote}
-use Rattle.credit_book.specs.declared.Ran.{Ran}
-use Rattle.credit_book.specs.declared.std_file.TableFile.{TableFile}
-use Rattle.credit_book.proofs.std_file.TableFile.{the-type}
+use Rattle.credit_book.specs.declared.Outcome.{Outcome}
+use Rattle.credit_book.specs.declared.arguments.Asked.{Asked}
+use Rattle.credit_book.specs.declared.start.Start.{Start}
+use Rattle.credit_book.specs.declared.start.Prepared.{Prepared}
 use Rattle.credit_book.specs.Turns.{RanBy}
-use Rattle.credit_book.specs.StdFile.{ComesTo, Opened, StdFileBy}
-use Rattle.credit_book.specs.Whole.{NotRun, ProgramBy}
+use Rattle.credit_book.specs.Start.{PreparedBy}
+use Rattle.credit_book.specs.Saving.{SavedBy}
+use Rattle.credit_book.specs.Whole.{NotRun, Unanswered, ProgramBy}
+use Rattle.credit_book.proofs.StartLaws.{startTag, same-refusal}
 
--- ---- what became of the file
-abbrev tag : TableFile → ℕ
-tag f = tagOf the-type f
+from-built-in :
+    {asked : Asked} {prepared : Prepared} {t t′ : Table} → t ≡ builtIn → PreparedBy asked t prepared t′
+    → PreparedBy asked builtIn prepared t′
+from-built-in {asked} {prepared} {t} {t′} b p = subst (λ (u : Table). PreparedBy asked u prepared t′) b p
 
-kept : {t t′ : Table} (fd : ℤ) (absent : Bool) → Opened fd absent t TableFile.Absent t′ → t′ ≡ t
-kept (pos k) absent o = absurd o
-kept (negsuc k) true o = o .1
-kept (negsuc k) false o = cc
-
-its-table : (t : Table) {t′ : Table} (fd : ℤ) (absent : Bool) → Opened fd absent t TableFile.Loaded t′ → ComesTo (table t′)
-its-table t (pos k) absent o = o
-its-table t (negsuc k) true o = absurd (omega (arith, ap tag (o .0)))
-its-table t (negsuc k) false o = absurd (omega (arith, ap tag o))
-
-its-refusal :
-    (t t′ : Table) (n : Refusal) (fd : ℤ) (absent : Bool) → Opened fd absent t (TableFile.Refused n) t′
-    → ComesTo (refused n)
-its-refusal t t′ n (pos k) absent o = o
-its-refusal t t′ n (negsuc k) true o = absurd (omega (arith, ap tag (o .0)))
-its-refusal t t′ n (negsuc k) false o = absurd (omega (arith, ap tag o))
-
--- ---- the cases
-module _ {out out′ : List ℕ} {answer : Wrote} {ran : Ran} where
-  -- the arm of the first two, of which each has its table
-  pub with-table :
-      (f : TableFile) {t t′ : Table} → OneOf (0 ∷ 1 ∷ []) (tag f) → t ≡ builtIn → StdFileBy t f t′ → RanBy t′ ran
-      → answer .handed ≡ 0 → ProgramBy out (record { file = f; answer = answer; ran = ran }) out′
-  with-table TableFile.Absent k e b r h =
+module _ {out out′ : List ℕ} {r : Outcome} {t t′ : Table} (b : t ≡ builtIn) (p : PreparedBy (r .asked) t (r .prepared) t′) where
+  pub with-run :
+      r .prepared .start ≡ Start.Ready → Unanswered r → RanBy t′ (r .prepared .book) (r .ran)
+      → SavedBy (r .asked .write) (r .ran .closed) (r .saved) → ProgramBy out r out′
+  with-run s a g h =
       record {
-        absent = λ _. (h, subst (λ (u : Table). RanBy u ran) (kept (b .fd) (b .absent) (b .opened) ∙ e) r);
-        loaded = λ q. absurd (omega (arith, ap tag q));
-        refused-by = λ n q. absurd (omega (arith, ap tag q));
-        unreadable = λ q. absurd (omega (arith, ap tag q));
+        table = t′;
+        prepared = from-built-in b p;
+        ready = λ _. (a, (g, h));
+        refused-by = λ n q. absurd (omega (arith, ap startTag (sym q ∙ s)));
+        failed = λ q. absurd (omega (arith, ap startTag (sym q ∙ s)));
       }
-  with-table TableFile.Loaded {t} {t′} k e b r h =
-      record {
-        absent = λ q. absurd (omega (arith, ap tag q));
-        loaded = λ _. (h, (t′, (its-table t (b .fd) (b .absent) (b .opened), r)));
-        refused-by = λ n q. absurd (omega (arith, ap tag q));
-        unreadable = λ q. absurd (omega (arith, ap tag q));
-      }
-  with-table (TableFile.Refused n) (inl k) e b r h = absurd (omega (arith, k))
-  with-table (TableFile.Refused n) (inr k) e b r h = absurd (omega (arith, k))
-  with-table TableFile.Unreadable (inl k) e b r h = absurd (omega (arith, k))
-  with-table TableFile.Unreadable (inr k) e b r h = absurd (omega (arith, k))
 
   pub with-refusal :
-      {f : TableFile} {t t′ : Table} {n : Refusal} → f ≡ TableFile.Refused n → StdFileBy t f t′
-      → Stands (textOf (Answer.Refused n)) 0 out (answer .handed) out′ → NotRun ran
-      → ProgramBy out (record { file = TableFile.Refused n; answer = answer; ran = ran }) out′
-  with-refusal {f} {t} {t′} {n} e b s r =
-      let o = subst (λ (g : TableFile). Opened (b .fd) (b .absent) t g t′) e (b .opened) in
+      {n : Refusal} → r .prepared .start ≡ Start.Refused n
+      → Stands (textOf (Answer.Refused n)) 0 out (r .answer .handed) out′ → NotRun r → ProgramBy out r out′
+  with-refusal s a g =
       record {
-        absent = λ q. absurd (omega (arith, ap tag q));
-        loaded = λ q. absurd (omega (arith, ap tag q));
-        refused-by =
-            λ m q.
-            subst
-            (λ (k : Refusal).
-            ComesTo (refused k) × (Stands (textOf (Answer.Refused k)) 0 out (answer .handed) out′ × NotRun ran))
-            (same q) (its-refusal t t′ n (b .fd) (b .absent) o, (s, r));
-        unreadable = λ q. absurd (omega (arith, ap tag q));
+        table = t′;
+        prepared = from-built-in b p;
+        ready = λ q. absurd (omega (arith, ap startTag (sym q ∙ s)));
+        refused-by = λ m q.
+            (subst (λ (k : Refusal). Stands (textOf (Answer.Refused k)) 0 out (r .answer .handed) out′) (same-refusal (sym s ∙ q)) a, g);
+        failed = λ q. absurd (omega (arith, ap startTag (sym q ∙ s)));
       }
-    where
-      same : {k m : Refusal} → TableFile.Refused k ≡ TableFile.Refused m → k ≡ m
-      same q = cc
 
-  pub with-nothing :
-      {f : TableFile} → f ≡ TableFile.Unreadable → answer .handed ≡ 0 → NotRun ran
-      → ProgramBy out (record { file = f; answer = answer; ran = ran }) out′
-  with-nothing e h r =
+  pub with-nothing : r .prepared .start ≡ Start.Failed → Unanswered r → NotRun r → ProgramBy out r out′
+  with-nothing s a g =
       record {
-        absent = λ q. absurd (omega (arith, ap tag (sym e ∙ q)));
-        loaded = λ q. absurd (omega (arith, ap tag (sym e ∙ q)));
-        refused-by = λ n q. absurd (omega (arith, ap tag (sym e ∙ q)));
-        unreadable = λ _. (h, r);
+        table = t′;
+        prepared = from-built-in b p;
+        ready = λ q. absurd (omega (arith, ap startTag (sym q ∙ s)));
+        refused-by = λ n q. absurd (omega (arith, ap startTag (sym q ∙ s)));
+        failed = λ _. (a, g);
       }

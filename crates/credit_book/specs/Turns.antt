@@ -1,6 +1,6 @@
 -- What the program's functions hold to. No contract can say what a call of the system read or wrote; these say it of
 -- values: what a read answered, how many bytes standard output was handed, and what stood in the buffer they came from.
--- t is the table of standards, one for the whole run, and x a terminal.
+-- t is the table of standards, one for the whole run, b the book that it begins with, and x a terminal.
 use Prim.Native.Nat.{ℕ, zero, suc}
 use mathlib.Core.Bool.{Bool, true, false, cond}
 use mathlib.Core.Path.{_≡_}
@@ -9,6 +9,7 @@ use lib.IntN.{ℤ, pos, negsuc}
 use lib.ListN.{length, take}
 use Rattle.io.specs.Counts.{clamped}
 use Rattle.figuring.specs.Tables.{Table}
+use Rattle.book.specs.declared.ledger.Book.{Book}
 use Rattle.text.specs.declared.desk.Desk.{Desk}
 use Rattle.text.specs.Desk.{Terminal, atDesk, takesAll, ends}
 use Rattle.text.specs.Listing.{listing}
@@ -61,21 +62,21 @@ pub record Turned (t : Table) (d : Desk) (out : List ℕ) (r : Turn) (out′ : L
 
 -- the chunks that were read, the terminal that took them, whether there may be more, and whether nothing failed:
 -- in each turn all that the terminal said was handed over, and each turn but the last left more to read
-pub data Reading (t : Table) : List (List ℕ) → Terminal → Bool → Bool → Type 0 where
-  begun : Reading t [] opened true true
+pub data Reading (t : Table) (b : Book) : List (List ℕ) → Terminal → Bool → Bool → Type 0 where
+  begun : Reading t b [] (opened b) true true
   turn :
       {chunks : List (List ℕ)} {x : Terminal} {before : Bool}
       (chunk : List ℕ) (got : ℤ) (interrupted : Bool) (wrote : Wrote)
-      → Reading t chunks x true before
+      → Reading t b chunks x true before
       → length chunk ≡ clamped got chunkRoom
       → wrote .handed ≡ length (takesAll t x chunk .said)
-      → Reading t (chunks ++ (chunk ∷ [])) (written (takesAll t x chunk))
+      → Reading t b (chunks ++ (chunk ∷ [])) (written (takesAll t x chunk))
       (readsOn got (turnFine got interrupted (wrote .fine))) (turnFine got interrupted (wrote .fine))
 
 -- the input is read to its end, to a failure, or until the turns are used up
-pub record ReadBy (t : Table) (r : Input) : Type 0 where
+pub record ReadBy (t : Table) (b : Book) (r : Input) : Type 0 where
   pub chunks : List (List ℕ)
-  pub reading : Reading t chunks (atDesk (r .desk)) (r .more) (r .fine)
+  pub reading : Reading t b chunks (atDesk (r .desk)) (r .more) (r .fine)
   pub counts : r .turns ≡ length chunks
   pub used-up : r .more ≡ true → r .turns ≡ mostTurns
 
@@ -87,7 +88,15 @@ atEnd more fine = cond more false fine
 pub record ClosedBy (t : Table) (x : Terminal) (r : Closed) : Type 0 where
   pub handed-is : r .last .handed ≡ length (ends t x .said)
   pub listed-is : r .last .fine ≡ true → r .listed .handed ≡ length (listing (ends t x .book))
-  pub unlisted : r .last .fine ≡ false → r .listed .handed ≡ 0
+  pub unlisted : r .last .fine ≡ false → (r .listed .handed ≡ 0) × (r .listed .fine ≡ false)
+  -- the book after the last line
+  pub book-is : r .book ≡ ends t x .book
+
+-- nothing is written at the end
+pub record Unclosed (r : Closed) : Type 0 where
+  pub last-is : r .last .handed ≡ 0
+  pub listed-is : r .listed .handed ≡ 0
+  pub not-fine : r .listed .fine ≡ false
 
 -- what the terminal x says to the chunks, turn by turn
 unfoldable pub saidTo : Table → Terminal → List (List ℕ) → List ℕ
@@ -95,14 +104,12 @@ saidTo t x [] = []
 saidTo t x (c ∷ cs) = takesAll t x c .said ++ saidTo t (written (takesAll t x c)) cs
 
 -- a run: the input, and what is written at its end, if it came to it and nothing failed
-pub record RanBy (t : Table) (r : Ran) : Type 0 where
-  pub read : ReadBy t (r .input)
+pub record RanBy (t : Table) (b : Book) (r : Ran) : Type 0 where
+  pub read : ReadBy t b (r .input)
   pub closes : atEnd (r .input .more) (r .input .fine) ≡ true → ClosedBy t (atDesk (r .input .desk)) (r .closed)
-  pub unclosed :
-      atEnd (r .input .more) (r .input .fine) ≡ false
-      → (r .closed .last .handed ≡ 0) × (r .closed .listed .handed ≡ 0)
+  pub unclosed : atEnd (r .input .more) (r .input .fine) ≡ false → Unclosed (r .closed)
   -- what the turns, the last line and the listing say is together the terminal's answer to the bytes that were read
   pub whole :
-      saidTo t opened (read .chunks)
+      saidTo t (opened b) (read .chunks)
       ++ (ends t (atDesk (r .input .desk)) .said ++ listing (ends t (atDesk (r .input .desk)) .book))
-      ≡ terminal t (joined (read .chunks))
+      ≡ terminal t b (joined (read .chunks))

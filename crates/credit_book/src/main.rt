@@ -1,10 +1,16 @@
-// The program of document 01: from a fresh book, reads standard input to its end, answers each line, lists the cells.
+// The program of document 01: from a fresh book, or from that of a file, reads standard input to its end, answers each line,
+// lists the cells; then it writes the book out to a file, where one is named.
 // All that answers is handed one table of standards: that of the file std.txt, or the built-in one.
 // The contracts speak of values, since none can say what a call of the system read or wrote (specs/Turns.antt).
+mod arguments;
+mod book_file;
+mod files;
+mod saving;
+mod start;
 mod std_file;
 
 ghost use Prim.Native.Nat.{_≤_};
-ghost use mathlib.Core.Bool.{true};
+ghost use mathlib.Core.Bool.{false, true};
 ghost use mathlib.Core.Path.{_≡_};
 ghost use lib.ListN.{length};
 ghost use Rattle.book.specs.declared.answers.Answer.{Answer};
@@ -12,16 +18,21 @@ ghost use Rattle.text.specs.Answers.{textOf};
 ghost use Rattle.text.specs.Desk.{atDesk, ends, takesAll};
 ghost use Rattle.text.specs.Listing.{listing};
 ghost use Rattle.text.specs.Placing.{Stands};
-ghost use Rattle.credit_book.specs.Turns.{ClosedBy, Delivered, RanBy, ReadBy, Turned};
+ghost use Rattle.credit_book.specs.Turns.{ClosedBy, Delivered, RanBy, ReadBy, Turned, Unclosed};
 ghost use Rattle.credit_book.specs.Turns.{atEnd, chunkRoom, firstBytes, outRoom, readsOn, turnFine};
-ghost use Rattle.credit_book.specs.Whole.{NotRun, ProgramBy};
+ghost use Rattle.credit_book.specs.Whole.{ProgramBy};
+use arguments::Asked;
+use arguments::named_files;
 use book::answers::Answer;
 use book::answers::Refusal;
+use book::ledger::Book;
 use figuring::tables::Table;
 use libc::STDIN_FILENO;
 use libc::STDOUT_FILENO;
-use std_file::TableFile;
-use std_file::load_std_file;
+use saving::save;
+use start::Prepared;
+use start::Start;
+use start::prepare;
 use text::answering::ANSWER_ROOM;
 use text::desk::Desk;
 
@@ -58,10 +69,11 @@ pub struct Input {
     pub fine: bool,
 }
 
-// The writing of the last line's answer, and of the listing.
+// The writing of the last line's answer, and of the listing; the book after the last line.
 pub struct Closed {
     pub last: Wrote,
     pub listed: Wrote,
+    pub book: Book,
 }
 
 // The input as it was read, and what was written at its end.
@@ -70,11 +82,13 @@ pub struct Ran {
     pub closed: Closed,
 }
 
-// What became of std.txt, the writing of a refused table's answer, and the run.
+// What was asked, what came before the run, the writing of a refused text's answer, the run, and the writing out of its book.
 pub struct Outcome {
-    pub file: TableFile,
+    pub asked: Asked,
+    pub prepared: Prepared,
     pub answer: Wrote,
     pub ran: Ran,
+    pub saved: Wrote,
 }
 
 fn written(text: &[u8]) -> Wrote
@@ -92,7 +106,7 @@ fn written(text: &[u8]) -> Wrote
 
 // What is not written, since something failed before.
 fn unwritten() -> Wrote
-    ensures { λ r. ⌜ r .handed ≡ 0 ⌝ }
+    ensures { λ r. ⌜ (r .handed ≡ 0) × (r .fine ≡ false) ⌝ }
 {
     Wrote {
         handed: 0,
@@ -188,11 +202,11 @@ fn read_some(desk: Desk, table: Table, out: &mut [u8]) -> Turn
 }
 
 // A proved loop has to end, and nothing says that the input does: it counts its turns up to a number no run reaches.
-fn read_all(table: Table, out: &mut [u8]) -> Input
+fn read_all(table: Table, book: Book, out: &mut [u8]) -> Input
     requires { ⌜ outRoom ≤ length (now out) ⌝ }
-    ensures { λ r. ⌜ ReadBy table r ⌝ }
+    ensures { λ r. ⌜ ReadBy table book r ⌝ }
 {
-    let mut desk = text::desk::open_desk();
+    let mut desk = text::desk::open_desk(book);
     let mut turns: u64 = 0;
     let mut more = true;
     let mut fine = true;
@@ -227,29 +241,44 @@ fn close(input: Input, table: Table, out: &mut [u8]) -> Closed
     let desk = input.desk;
     let said = answer_last(desk, table, out);
     let last = said.wrote;
+    let after = said.desk;
+    let book = after.book;
     if last.fine {
         let listed = list_cells(said, out);
-        return Closed { last, listed };
+        return Closed { last, listed, book };
     }
     let listed = unwritten();
-    Closed { last, listed }
+    Closed { last, listed, book }
 }
 
-fn run(table: Table, out: &mut [u8]) -> Ran
-    requires { ⌜ outRoom ≤ length (now out) ⌝ }
-    ensures { λ r. ⌜ RanBy table r ⌝ }
+// Nothing is written at the end.
+fn unclosed(desk: Desk) -> Closed
+    ensures { λ r. ⌜ Unclosed r ⌝ }
 {
-    let input = read_all(table, out);
+    let last = unwritten();
+    let book = desk.book;
+    Closed {
+        last,
+        listed: last,
+        book,
+    }
+}
+
+fn run(table: Table, book: Book, out: &mut [u8]) -> Ran
+    requires { ⌜ outRoom ≤ length (now out) ⌝ }
+    ensures { λ r. ⌜ RanBy table book r ⌝ }
+{
+    let input = read_all(table, book, out);
     if at_end(input.more, input.fine) {
         let closed = close(input, table, out);
         return Ran { input, closed };
     }
-    let last = unwritten();
-    let closed = Closed { last, listed: last };
+    let desk = input.desk;
+    let closed = unclosed(desk);
     Ran { input, closed }
 }
 
-// The answer of a refused table, alone.
+// The answer of a refused table or book, alone.
 fn refuse(r: Refusal, out: &mut [u8]) -> Wrote
     requires { ⌜ outRoom ≤ length (now out) ⌝ }
     ensures { λ w. ⌜ Stands (textOf (Answer.Refused r)) 0 (now (out .entry)) (w .handed) (now (out .exit)) ⌝ }
@@ -260,18 +289,17 @@ fn refuse(r: Refusal, out: &mut [u8]) -> Wrote
 }
 
 // No run: nothing is read.
-fn unrun() -> Ran
-    ensures { λ r. ⌜ NotRun r ⌝ }
+fn unrun(book: Book) -> Ran
+    ensures { λ r. ⌜ (r .input .turns ≡ 0) × Unclosed (r .closed) ⌝ }
 {
-    let desk = text::desk::open_desk();
+    let desk = text::desk::open_desk(book);
     let input = Input {
         desk,
         turns: 0,
         more: true,
         fine: false,
     };
-    let last = unwritten();
-    let closed = Closed { last, listed: last };
+    let closed = unclosed(desk);
     Ran { input, closed }
 }
 
@@ -279,23 +307,49 @@ fn program(out: &mut [u8]) -> Outcome
     requires { ⌜ outRoom ≤ length (now out) ⌝ }
     ensures { λ r. ⌜ ProgramBy (now (out .entry)) r (now (out .exit)) ⌝ }
 {
+    let asked = named_files();
     let mut table = figuring::grid::printed_grid();
-    let file = load_std_file(&mut table);
-    match file {
-        TableFile::Absent | TableFile::Loaded => {
-            let ran = run(table, out);
+    let prepared = prepare(asked, &mut table);
+    let start = prepared.start;
+    match start {
+        Start::Ready => {
+            let book = prepared.book;
+            let ran = run(table, book, out);
+            let closed = ran.closed;
+            let saved = save(asked.write, closed, out);
             let answer = unwritten();
-            Outcome { file, answer, ran }
+            Outcome {
+                asked,
+                prepared,
+                answer,
+                ran,
+                saved,
+            }
         }
-        TableFile::Refused(r) => {
+        Start::Refused(r) => {
+            let book = prepared.book;
             let answer = refuse(r, out);
-            let ran = unrun();
-            Outcome { file, answer, ran }
+            let ran = unrun(book);
+            let saved = unwritten();
+            Outcome {
+                asked,
+                prepared,
+                answer,
+                ran,
+                saved,
+            }
         }
-        TableFile::Unreadable => {
+        Start::Failed => {
+            let book = prepared.book;
+            let ran = unrun(book);
             let answer = unwritten();
-            let ran = unrun();
-            Outcome { file, answer, ran }
+            Outcome {
+                asked,
+                prepared,
+                answer,
+                ran,
+                saved: answer,
+            }
         }
     }
 }

@@ -1,4 +1,4 @@
--- The claims, for any table and any input.
+-- The claims, for any table, any book to begin with and any input.
 use Prim.Native.Nat.{ℕ}
 use native.Mathlib.Omega.{arith}
 use mathlib.Core.Bool.{true}
@@ -9,17 +9,15 @@ use lib.ListN.{take}
 use Rattle.figuring.specs.Tables.{Table}
 use Rattle.book.specs.Ledger.{Key, In}
 use Rattle.book.specs.Soundness.{sound}
-use Rattle.book.specs.Postings.{freshBook}
-use Rattle.book.specs.Accounts.{Accounts, zeroAccounts, accountsOf}
+use Rattle.book.specs.Accounts.{Accounts, begunWith, accountsFrom}
 use Rattle.book.specs.Rules.{Request}
 use Rattle.book.specs.Demand3 as D
-use Rattle.book.specs.Demand3.{history, Reconciled}
-use Rattle.book.specs.Companions.{acceptedOnly}
+use Rattle.book.specs.Demand3.{openingOf, accountsAfter, Reconciled}
+use Rattle.book.specs.Companions.{Sized, acceptedOnly}
 use Rattle.book.specs.Orders.{Among}
 use Rattle.book.specs.FilingOrder.{Lodged, filings, afterFilings}
 use Rattle.book.specs.declared.answers.Answer.{Answer}
 use Rattle.book.specs.declared.ledger.Book.{Book}
-use Rattle.book.proofs.FreshSound.{fresh-sound, fresh-sized}
 use Rattle.book.proofs.SoundnessLaws.{sound-is, sound-lot}
 use Rattle.book.proofs.KeptSound.{sized-after}
 use Rattle.book.proofs.NeverUnsound.{never-unsound}
@@ -41,161 +39,171 @@ use Rattle.shown.proofs.LeftLaws.{left-by}
 use Rattle.shown.proofs.OrderLaws.{items-rise, only-items}
 use Rattle.shown.proofs.StatementLaws.{accounts-same, year-same, listing-is}
 use Rattle.shown.proofs.LineLaws.{item-lines, item-read}
-use Rattle.shown.proofs.ItemLaws.{Exact, each-says, says-each, says-behind}
+use Rattle.shown.proofs.ItemLaws.{Exact, by-opening, each-says, says-each, says-behind}
 use Rattle.shown.proofs.JournalLaws.{Written, written-calls, written-kept, written-take, journal-read, answers-accepted, first-accepted, lines-accepted, accepted-again, cut-journal}
 use Rattle.shown.proofs.TornLaws.{torn-calls}
 
-accounts-are : (rs : List Request) → accountsOf (history freshBook rs) ≡ accountsBy (acceptedOnly freshBook rs)
-unfolding accountsOf accountsBy
-accounts-are rs = accounts-same zeroAccounts freshBook rs
+accounts-are : (b : Book) (rs : List Request) → accountsAfter b rs ≡ accountsBy (openingOf b) (acceptedOnly b rs)
+unfolding accountsFrom accountsBy
+accounts-are b rs = accounts-same (begunWith (openingOf b)) b rs
 
 -- the Mg of an answer
 left-says :
-    (before : List Request) (r : Request) (n : ℕ) → answerAfter before r ≡ Answer.Left (record { 0 = n })
-    → Leaves (accountsBy (acceptedOnly freshBook (before ++ r ∷ []))) (r .call) n
+    (b : Book) → Sized b → (before : List Request) (r : Request) (n : ℕ)
+    → answerAfter b before r ≡ Answer.Left (record { 0 = n })
+    → Leaves (accountsBy (openingOf b) (acceptedOnly b (before ++ r ∷ []))) (r .call) n
 unfolding D.bookAfter
-left-says before r n e =
-    subst (λ (a : Accounts). Leaves a (r .call) n) (accounts-are (before ++ r ∷ []))
-    (left-by (r .table) (D.bookAfter freshBook before) (r .call) n (sized-after freshBook before fresh-sized) e (accountsOf (history freshBook (before ++ r ∷ [])))
-    (λ k i. subst (λ (b : Book). Reconciled b (accountsOf (history freshBook (before ++ r ∷ []))) k) (book-append before (r ∷ []) freshBook) (demand3 (before ++ r ∷ []) .reconciled k i)))
+left-says b z before r n e =
+    subst (λ (a : Accounts). Leaves a (r .call) n) (accounts-are b (before ++ r ∷ []))
+    (left-by (r .table) (D.bookAfter b before) (r .call) n (sized-after b before z) e (accountsAfter b (before ++ r ∷ []))
+    (λ k i. subst (λ (c : Book). Reconciled c (accountsAfter b (before ++ r ∷ [])) k) (book-append before (r ∷ []) b) (demand3 b z (before ++ r ∷ []) .reconciled k i)))
 
-module _ (t : Table) (input : List ℕ) where
-  pub by-calls : ByCalls t input
+module _ (t : Table) (b : Book) (input : List ℕ) where
+  pub by-calls : ByCalls t b input
   by-calls =
       record {
-        book = book-by-calls t freshBook (linesOf input);
-        answered = answers-by-calls t freshBook (linesOf input);
-        each = an-answer-each t freshBook (linesOf input);
-        inPlace = λ before r after e. ap (answersOf freshBook) e ∙ answers-in-place before r after freshBook;
+        book = book-by-calls t b (linesOf input);
+        answered = answers-by-calls t b (linesOf input);
+        each = an-answer-each t b (linesOf input);
+        inPlace = λ before r after e. ap (answersOf b) e ∙ answers-in-place before r after b;
       }
 
-  is-sound : sound (finalBook t input) ≡ true
-  is-sound = ap sound (by-calls .book) ∙ never-unsound (calls t input) .staysSound
+  -- ---- begun with a sound book
+  module _ (z : Sized b) (s : sound b ≡ true) where
+    is-sound : sound (finalBook t b input) ≡ true
+    is-sound = ap sound (by-calls .book) ∙ never-unsound b z s (calls t input) .staysSound
 
-  reconciled : (k : Key) → In k → Reconciled (finalBook t input) (accountsOf (history freshBook (calls t input))) k
-  reconciled k i =
-      subst (λ (b : Book). Reconciled b (accountsOf (history freshBook (calls t input))) k) (sym (by-calls .book)) (demand3 (calls t input) .reconciled k i)
+    reconciled : (k : Key) → In k → Reconciled (finalBook t b input) (accountsAfter b (calls t input)) k
+    reconciled k i =
+        subst (λ (c : Book). Reconciled c (accountsAfter b (calls t input)) k) (sym (by-calls .book)) (demand3 b z (calls t input) .reconciled k i)
 
-  pub demands : Demands t input
-  demands =
-      record {
-        neverTwo = no-two t freshBook (linesOf input) fresh-sized fresh-sound;
-        staysSound = is-sound;
-        demand3 = demand3 (calls t input);
-        reconciled = reconciled;
-      }
+    pub demands : Demands t b input
+    demands =
+        record {
+          neverTwo = no-two t b (linesOf input) z s;
+          staysSized = subst Sized (sym (by-calls .book)) (sized-after b (calls t input) z);
+          staysSound = is-sound;
+          demand3 = demand3 b z (calls t input);
+          reconciled = reconciled;
+        }
 
-  year-is : finalBook t input .«open_year» ≡ yearBy (postings t input)
-  unfolding freshBook
-  year-is = ap (λ (b : Book). b .«open_year») (by-calls .book) ∙ year-same freshBook (calls t input)
+    -- the accounts of the postings
+    abbrev A : Accounts
+    A = accountsBy (openingOf b) (postings t b input)
 
-  by-postings : (k : Key) → In k → Reconciled (finalBook t input) (accountsBy (postings t input)) k
-  by-postings k i = subst (λ (a : Accounts). Reconciled (finalBook t input) a k) (accounts-are (calls t input)) (reconciled k i)
+    year-is : finalBook t b input .«open_year» ≡ yearBy (b .«open_year») (postings t b input)
+    year-is = ap (λ (c : Book). c .«open_year») (by-calls .book) ∙ year-same b (calls t input)
 
-  listed : listing (finalBook t input) ≡ statement (postings t input)
-  listed =
-      listing-is (finalBook t input) (accountsBy (postings t input)) (sound-is (finalBook t input) is-sound) by-postings
-      ∙ ap (λ (y : ℕ). itemLines y (items (accountsBy (postings t input)))) year-is
+    by-postings : (k : Key) → In k → Reconciled (finalBook t b input) A k
+    by-postings k i = subst (λ (a : Accounts). Reconciled (finalBook t b input) a k) (accounts-are b (calls t input)) (reconciled k i)
 
-  exact : (k : Key) → In k → Exact (accountsBy (postings t input)) k
-  exact k i =
-      record { lot = omega (arith, by-postings k i .lot); shortage = omega (arith, by-postings k i .shortage) }
+    listed : listing (finalBook t b input) ≡ statement (b .«open_year») (openingOf b) (postings t b input)
+    listed =
+        listing-is (finalBook t b input) A (sound-is (finalBook t b input) is-sound) by-postings
+        ∙ ap (λ (y : ℕ). itemLines y (items A)) year-is
 
-  says : (x : Item) → Among x (items (accountsBy (postings t input))) → Says (accountsBy (postings t input)) x
-  says = each-says (accountsBy (postings t input)) exact
+    exact : (k : Key) → In k → Exact A k
+    exact k i =
+        record { lot = omega (arith, by-postings k i .lot); shortage = omega (arith, by-postings k i .shortage) }
 
-  -- a balance of a sound book has at most 12 digits
-  small : (x : Item) → Says (accountsBy (postings t input)) x → Small mostDigits (itemFigures x)
-  small (lot k n) h =
-      let w = sound-is (finalBook t input) is-sound in
-      let i = h .1 .0 in
-      (omega arith, (omega arith, (omega arith, (omega (arith, h .1 .1, by-postings k i .lot, sound-lot (finalBook t input) w k i), tt))))
-  small (short k n) h =
-      let w = sound-is (finalBook t input) is-sound in
-      let i = h .1 .0 in
-      (omega arith, (omega arith, (omega arith, (omega (arith, h .1 .1, by-postings k i .shortage, w .shortage k i), tt))))
+    says : (x : Item) → Among x (items A) → Says A x
+    says = each-says A exact
 
-  exactly : (x : Item) → Among x (items (accountsBy (postings t input))) ↔ Says (accountsBy (postings t input)) x
-  exactly x = (says x, says-each (accountsBy (postings t input)) exact x)
+    -- a balance of a sound book has at most 12 digits
+    small : (x : Item) → Says A x → Small mostDigits (itemFigures x)
+    small (lot k n) h =
+        let w = sound-is (finalBook t b input) is-sound in
+        let i = h .1 .0 in
+        (omega arith, (omega arith, (omega arith, (omega (arith, h .1 .1, by-postings k i .lot, sound-lot (finalBook t b input) w k i), tt))))
+    small (short k n) h =
+        let w = sound-is (finalBook t b input) is-sound in
+        let i = h .1 .0 in
+        (omega arith, (omega arith, (omega arith, (omega (arith, h .1 .1, by-postings k i .shortage, w .shortage k i), tt))))
 
-  tells : Tells (postings t input)
-  tells =
-      record {
-        exactly = exactly;
-        rises = items-rise (accountsBy (postings t input));
-        only = λ xs h k. only-items (Says (accountsBy (postings t input))) xs (items (accountsBy (postings t input))) h exactly k (items-rise (accountsBy (postings t input)));
-        behind = λ x m. says-behind (postings t input) x (says x m);
-        lines = item-lines (yearBy (postings t input)) (items (accountsBy (postings t input)));
-        figures = λ x m. item-read (yearBy (postings t input)) x (small x (says x m));
-      }
+    exactly : (x : Item) → Among x (items A) ↔ Says A x
+    exactly x = (says x, says-each A exact x)
 
-  pub on-screen : OnScreen t input
-  unfolding terminal
-  on-screen =
-      record {
-        shows = ap₂ _++_ (by-calls .answered) listed;
-        listed = listed;
-        tells = tells;
-        left = λ before r after n e f. left-says before r n f;
-      }
+    tells : Tells (b .«open_year») (openingOf b) (postings t b input)
+    tells =
+        record {
+          opening = by-opening (openingOf b) (postings t b input);
+          exactly = exactly;
+          rises = items-rise A;
+          only = λ xs h k. only-items (Says A) xs (items A) h exactly k (items-rise A);
+          behind = λ x m. says-behind (openingOf b) (postings t b input) x (says x m);
+          lines = item-lines (yearBy (b .«open_year») (postings t b input)) (items A);
+          figures = λ x m. item-read (yearBy (b .«open_year») (postings t b input)) x (small x (says x m));
+        }
 
-  written : Written t (postings t input)
-  written = written-kept t freshBook (calls t input) (written-calls t input)
+    pub on-screen : OnScreen t b input
+    unfolding terminal
+    on-screen =
+        record {
+          shows = ap₂ _++_ (by-calls .answered) listed;
+          listed = listed;
+          tells = tells;
+          left = λ before r after n e f. left-says b z before r n f;
+        }
 
-  calls-are : calls t (journal t input) ≡ postings t input
-  calls-are = journal-read t (postings t input) written
+  -- ---- the journal
+  written : Written t (postings t b input)
+  written = written-kept t b (calls t input) (written-calls t input)
 
-  book-kept : finalBook t (journal t input) ≡ finalBook t input
+  calls-are : calls t (journal t b input) ≡ postings t b input
+  calls-are = journal-read t (postings t b input) written
+
+  book-kept : finalBook t b (journal t b input) ≡ finalBook t b input
   book-kept =
-      book-by-calls t freshBook (linesOf (journal t input)) ∙ ap (D.bookAfter freshBook) calls-are ∙ strike-out freshBook (calls t input)
+      book-by-calls t b (linesOf (journal t b input)) ∙ ap (D.bookAfter b) calls-are ∙ strike-out b (calls t input)
       ∙ sym (by-calls .book)
 
-  accepts : Every Accepts (answersOf freshBook (postings t input))
-  accepts = answers-accepted freshBook (calls t input)
+  accepts : Every Accepts (answersOf b (postings t b input))
+  accepts = answers-accepted b (calls t input)
 
-  torn : (p q : List ℕ) → journal t input ≡ p ++ q → (n : ℕ) × (calls t p ≡ take n (postings t input))
-  torn p q e = torn-calls t (postings t input) written p q e
+  torn : (p q : List ℕ) → journal t b input ≡ p ++ q → (n : ℕ) × (calls t p ≡ take n (postings t b input))
+  torn p q e = torn-calls t (postings t b input) written p q e
 
   cut-after :
-      (p q : List ℕ) → journal t input ≡ p ++ lineFeed ∷ q
-      → (n : ℕ) × (p ++ lineFeed ∷ [] ≡ journalOf (take n (postings t input))) × Every Accepts (answers t (p ++ lineFeed ∷ []))
+      (p q : List ℕ) → journal t b input ≡ p ++ lineFeed ∷ q
+      → (n : ℕ) × (p ++ lineFeed ∷ [] ≡ journalOf (take n (postings t b input))) × Every Accepts (answers t b (p ++ lineFeed ∷ []))
   cut-after p q e =
-      let h = cut-journal t (postings t input) written p q e in (
+      let h = cut-journal t (postings t b input) written p q e in (
         h .0,
         h .1,
-        subst (λ (s : List ℕ). Every Accepts (answers t s)) (sym (h .1))
-            (lines-accepted t freshBook (take (h .0) (postings t input)) (written-take t (h .0) (postings t input) written)
-            (first-accepted freshBook (postings t input) (h .0) accepts)),
+        subst (λ (s : List ℕ). Every Accepts (answers t b s)) (sym (h .1))
+            (lines-accepted t b (take (h .0) (postings t b input)) (written-take t (h .0) (postings t b input) written)
+            (first-accepted b (postings t b input) (h .0) accepts)),
       )
 
-  pub journal-kept : JournalKept t input
+  pub journal-kept : JournalKept t b input
   journal-kept =
       record {
         calls-are = calls-are;
         book = book-kept;
         list = ap listing book-kept;
-        accepted = lines-accepted t freshBook (postings t input) written accepts;
-        again = ap journalOf (ap (acceptedOnly freshBook) calls-are ∙ accepted-again freshBook (calls t input));
+        accepted = lines-accepted t b (postings t b input) written accepts;
+        again = ap journalOf (ap (acceptedOnly b) calls-are ∙ accepted-again b (calls t input));
         torn = torn;
-        torn-book = λ p q e. let h = torn p q e in (h .0, book-by-calls t freshBook (linesOf p) ∙ ap (D.bookAfter freshBook) (h .1));
+        torn-book = λ p q e. let h = torn p q e in (h .0, book-by-calls t b (linesOf p) ∙ ap (D.bookAfter b) (h .1));
         cut = cut-after;
       }
 
+-- ---- filing order
 -- the book of an input in which filings stand between other calls
 filed-between :
-    (t : Table) (input : List ℕ) (before after : List Request) (fs : List Lodged)
+    (t : Table) (b : Book) (input : List ℕ) (before after : List Request) (fs : List Lodged)
     → calls t input ≡ before ++ filings fs ++ after
-    → finalBook t input ≡ D.bookAfter (afterFilings (D.bookAfter freshBook before) fs) after
-filed-between t input before after fs e =
-    by-calls t input .book
-    ∙ ap (D.bookAfter freshBook) e
-    ∙ book-append (before ++ filings fs) after freshBook
-    ∙ ap (λ (b : Book). D.bookAfter b after) (book-append before (filings fs) freshBook)
+    → finalBook t b input ≡ D.bookAfter (afterFilings (D.bookAfter b before) fs) after
+filed-between t b input before after fs e =
+    by-calls t b input .book
+    ∙ ap (D.bookAfter b) e
+    ∙ book-append (before ++ filings fs) after b
+    ∙ ap (λ (c : Book). D.bookAfter c after) (book-append before (filings fs) b)
 
-pub filed-in-any-order : (t : Table) (input other : List ℕ) → FiledInAnyOrder t input other
-filed-in-any-order t input other before after fs gs e d r n =
-    let start = D.bookAfter freshBook before in
-    let same = filing-order start fs gs (sized-after freshBook before fresh-sized) r n in
-    filed-between t input before after fs e
-    ∙ ap (λ (b : Book). D.bookAfter b after) (same .books)
-    ∙ sym (filed-between t other before after gs d)
+pub filed-in-any-order : (t : Table) (b : Book) (input other : List ℕ) → Sized b → FiledInAnyOrder t b input other
+filed-in-any-order t b input other z before after fs gs e d r n =
+    let start = D.bookAfter b before in
+    let same = filing-order start fs gs (sized-after b before z) r n in
+    filed-between t b input before after fs e
+    ∙ ap (λ (c : Book). D.bookAfter c after) (same .books)
+    ∙ sym (filed-between t b other before after gs d)

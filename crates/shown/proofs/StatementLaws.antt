@@ -31,7 +31,7 @@ use Rattle.text.specs.Numeral.{numeral}
 use Rattle.text.specs.Pattern.{filled, hash, choose}
 use Rattle.text.specs.Desk.{lineFeed}
 use Rattle.text.specs.Listing.{lotText, shortageText, gather, lotLine, shortageLine, cellText, makerText, listing}
-use Rattle.shown.specs.Statement.{asPosting, yearAfter, yearFrom, lotBy, shortageBy, Item, lot, short, above0, collect, lotItem, shortItem, cellItems, items, itemLine, itemLines}
+use Rattle.shown.specs.Statement.{asPosting, yearAfter, yearBy, lotBy, shortageBy, Item, lot, short, above0, collect, lotItem, shortItem, cellItems, items, itemLine, itemLines}
 
 -- ---- the accounts and the open year see the accepted calls alone
 pub accounts-same :
@@ -58,15 +58,15 @@ year-done t b (Call.Retire p) = refl
 
 year-posted :
     (b : Book) (r : Request) (rest : List Request)
-    → yearFrom (b .«open_year») (keepIf (isAccepted (postedTo b r .answer)) r rest) ≡ yearFrom (postedTo b r .book .«open_year») rest
-unfolding isAccepted yearFrom
+    → yearBy (b .«open_year») (keepIf (isAccepted (postedTo b r .answer)) r rest) ≡ yearBy (postedTo b r .book .«open_year») rest
+unfolding isAccepted yearBy
 year-posted b r rest =
     by-verdict (r .table) b (r .call)
-    (λ p. yearFrom (b .«open_year») (keepIf (isAccepted (p .answer)) r rest) ≡ yearFrom (p .book .«open_year») rest) (λ w. refl)
-    (λ s e. rw (lawful (r .table) b (r .call) s e .answered) (ap (λ (y : ℕ). yearFrom y rest) (year-done (r .table) b (r .call))))
+    (λ p. yearBy (b .«open_year») (keepIf (isAccepted (p .answer)) r rest) ≡ yearBy (p .book .«open_year») rest) (λ w. refl)
+    (λ s e. rw (lawful (r .table) b (r .call) s e .answered) (ap (λ (y : ℕ). yearBy y rest) (year-done (r .table) b (r .call))))
 
-pub year-same : (b : Book) (rs : List Request) → bookAfter b rs .«open_year» ≡ yearFrom (b .«open_year») (acceptedOnly b rs)
-unfolding bookAfter acceptedOnly yearFrom
+pub year-same : (b : Book) (rs : List Request) → bookAfter b rs .«open_year» ≡ yearBy (b .«open_year») (acceptedOnly b rs)
+unfolding bookAfter acceptedOnly yearBy
 year-same b [] = refl
 year-same b (r ∷ rs) = year-same (postedTo b r .book) rs ∙ sym (year-posted b r (acceptedOnly (postedTo b r .book) rs))
 

@@ -10,7 +10,8 @@ use Rattle.figuring.specs.Tables.{Table, noRow, rowFits}
 use Rattle.book.specs.declared.answers.Refusal.{Refusal}
 use Rattle.book.specs.declared.answers.Refusal.the-variants.{NotATable, UnfitTable}
 use Rattle.text.specs.Lines.{linesOf}
-use Rattle.text.specs.TableText.{rowIn, refused, rowsFrom, tableOf, Right, lastRow, Faults}
+use Rattle.text.specs.Loads.{refused}
+use Rattle.text.specs.TableText.{rowIn, rowsFrom, tableOf, Right, lastRow, Faults}
 
 -- what the lines after right ones are refused by, all are
 past :

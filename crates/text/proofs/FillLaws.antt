@@ -3,7 +3,7 @@ use Prim.Native.Nat.{ℕ, zero, suc, _+_, _*_, _/_, _%_, _≤_, _<_}
 use native.Mathlib.Numerals.{add-one}
 use native.Mathlib.Omega.{arith}
 use mathlib.Core.Bool.{Bool, true, false, cond}
-use mathlib.Core.Path.{_≡_, refl, ap, _∙_}
+use mathlib.Core.Path.{_≡_, refl, sym, ap, _∙_}
 use mathlib.Core.List.{List, [], _∷_, _++_, append-assoc, append-nil}
 use lib.Dec.{eqb, ltb, leb, T, leb→le, lit≤}
 use lib.ListN.{length, getD, drop, set, replicate, length-append, drop-of-length-le}
@@ -146,6 +146,20 @@ filled-zeros (p ∷ ps) ns k =
         (λ u. p ∷ filled ps (ns ++ replicate k 0))
         ≡ choose b (λ u. numeral (getD ns 0 0) ++ filled ps (drop 1 ns)) (λ u. p ∷ filled ps ns)
     go true a b = rw (get-one ns k, a)
+    go false a b = rw b
+
+-- a byte after a pattern
+pub filled-then : (p ns : List ℕ) (c : ℕ) → eqb c hash ≡ false → filled (p ++ (c ∷ [])) ns ≡ filled p ns ++ (c ∷ [])
+unfolding filled
+filled-then [] ns c e = rw e
+filled-then (p ∷ ps) ns c e = go (eqb p hash) (filled-then ps (drop 1 ns) c e) (filled-then ps ns c e)
+  where
+    go :
+        (b : Bool) → filled (ps ++ (c ∷ [])) (drop 1 ns) ≡ filled ps (drop 1 ns) ++ (c ∷ [])
+        → filled (ps ++ (c ∷ [])) ns ≡ filled ps ns ++ (c ∷ [])
+        → choose b (λ u. numeral (getD ns 0 0) ++ filled (ps ++ (c ∷ [])) (drop 1 ns)) (λ u. p ∷ filled (ps ++ (c ∷ [])) ns)
+        ≡ choose b (λ u. numeral (getD ns 0 0) ++ filled ps (drop 1 ns)) (λ u. p ∷ filled ps ns) ++ (c ∷ [])
+    go true a b = rw a (sym (append-assoc (numeral (getD ns 0 0)) (filled ps (drop 1 ns)) (c ∷ [])))
     go false a b = rw b
 
 -- ---- a bound by the numbers' own digits

@@ -8,14 +8,14 @@ use mathlib.Core.Path.{_≡_, refl, sym, ap, subst, _∙_}
 use mathlib.Core.List.{List, [], _∷_, _++_, append-assoc}
 use lib.Dec.{eqb, ltb}
 use lib.ListN.{length, getD, take, drop, drop-of-length-le}
-use lib.Seq.{drop-cons, take-all, take-nil}
+use lib.Seq.{drop-cons, drop-drop, take-all, take-nil}
 use borrow.Author.Tests.{eqb-true, eqb-false, eq-eqb, ne-eqb, not-true}
 use Rattle.figuring.proofs.BoolLaws.{both}
 use Rattle.text.specs.Numeral.{numeral, numeralOf}
 use Rattle.text.specs.Pattern.{filled, hash, choose}
 use Rattle.text.specs.Desk.{lineFeed}
 use Rattle.text.specs.Lines.{linesFrom, linesOf, OneLine}
-use Rattle.text.specs.TableReading.{firstLine, afterLine}
+use Rattle.text.specs.FirstLine.{firstLine, afterLine, lineEnd}
 use Rattle.text.proofs.SessionLaws.{lines}
 
 -- ---- a pattern with no line feed in it is filled to one line
@@ -50,7 +50,7 @@ one-filled (c ∷ p) ns h =
     go false n ih = (n, ih ns)
 
 -- ---- the first line
-first-one : (s : List ℕ) → OneLine (firstLine s)
+pub first-one : (s : List ℕ) → OneLine (firstLine s)
 unfolding firstLine
 first-one [] = tt
 first-one (b ∷ s) = go (eqb b lineFeed) refl (first-one s)
@@ -126,6 +126,18 @@ first-taken (b ∷ s) = go (eqb b lineFeed) (first-taken s)
         → take (length (cond e [] (b ∷ firstLine s))) (b ∷ s) ≡ cond e [] (b ∷ firstLine s)
     go true ih = refl
     go false ih = ap (λ (l : List ℕ). b ∷ l) ih
+
+-- the line that begins at a place, and what follows it, by where the line ends
+module _ (text : List ℕ) (at : ℕ) {end : ℕ} (ends : end ≡ lineEnd text at) where
+  pub line-at : take (end - at) (drop at text) ≡ firstLine (drop at text)
+  line-at =
+      let e : end - at ≡ length (firstLine (drop at text)) = omega arith in
+      rw e (first-taken (drop at text))
+
+  pub after-at : drop (end + 1) text ≡ afterLine (drop at text)
+  after-at =
+      let e : end + 1 ≡ at + suc (length (firstLine (drop at text))) = omega arith in
+      rw e (sym (drop-drop (suc (length (firstLine (drop at text)))) at text))
 
 module _ (s : List ℕ) (i : ℕ) where
   pub line-goes :

@@ -134,16 +134,16 @@ allApart [] = true
 allApart (f ∷ fs) = every (λ g. apart (f .pattern) (g .pattern)) fs && allApart fs
 
 chosen :
-    (n : ℕ) (fs : List Form) (f : Form) (ns : List ℕ) → IsAt n fs f → allApart fs ≡ true
+    (n : ℕ) (fs : List Form) (f : Form) (ns : List ℕ) → IsAt n fs f → allApart fs ≡ true → Small mostDigits ns
     → fit mostDigits (f .pattern) (filled (f .pattern) ns) ≡ some ns
     → firstForm fs (filled (f .pattern) ns) ≡ Line.Form (f .call (padded ns))
 unfolding figures allApart
-chosen n [] f ns h a e = absurd h
-chosen zero (g ∷ gs) f ns h a e = rw (h, e)
-chosen (suc n) (g ∷ gs) f ns h a e =
+chosen n [] f ns h a m e = absurd h
+chosen zero (g ∷ gs) f ns h a m e = rw (h, e)
+chosen (suc n) (g ∷ gs) f ns h a m e =
     let w = both (every (λ x. apart (g .pattern) (x .pattern)) gs) (allApart gs) a in
     let d = every-at (λ x. apart (g .pattern) (x .pattern)) n gs f h (w .0) in
-    rw (apart-unfit mostDigits (g .pattern) (f .pattern) ns d) (chosen n gs f ns h (w .1) e)
+    rw (apart-unfit mostDigits (lit≤ tt) (lit≤ tt) (g .pattern) (f .pattern) ns d m) (chosen n gs f ns h (w .1) m e)
 
 pub rendered-form :
     (c : Call) → Small mostDigits (figuresIn c) → length (rendered c) ≤ longestLine → lineOf (rendered c) ≡ Line.Form c
@@ -153,7 +153,7 @@ rendered-form c h l =
     let p = each-form (λ f. separate (f .pattern)) refl c in
     let e = fills-fit mostDigits (lit≤ tt) (lit≤ tt) (formOf c .pattern) (figuresIn c) p (k .count) h in
     rw (le-ltb longestLine (length (rendered c)) l)
-    (chosen (k .place) forms (formOf c) (figuresIn c) (k .is-there) refl e ∙ ap {B = Line} Line.Form (k .made))
+    (chosen (k .place) forms (formOf c) (figuresIn c) (k .is-there) refl h e ∙ ap {B = Line} Line.Form (k .made))
 
 each : (s : List ℕ) (c : Call) → IsText s c → lineOf s ≡ Line.Form c
 each s c t =

@@ -20,6 +20,20 @@ pub mod TableRowsLaws
 mod FaultLaws
 pub mod TableTextLaws
 pub mod LoadLaws
+pub mod FeedLaws
+pub mod EntryLineLaws
+pub mod EntryOrderLaws
+pub mod EntryFacts
+pub mod EntryLaws
+pub mod SameBookLaws
+pub mod AcceptedTextLaws
+pub mod WritableLaws
+pub mod RoundTripLaws
+pub mod RankLaws
+pub mod BookRoomLaws
+pub mod WritingLaws
+pub mod ReadingLaws
 pub mod ReaderWalk
+pub mod ReadInWalk
 pub mod LentSlice
 pub mod ExampleLaws

@@ -96,7 +96,7 @@ module _ {f : ℕ → List ℕ} {m : ℕ} {l out : List ℕ} {at w i : ℕ} (g :
   pub all-gathered : (n : ℕ) → i ≤ n → n ≤ i → Stands (gather n f) at l w out
   all-gathered n a b = let e : i ≡ n = omega arith in rw (← e) (g .stands)
 
-gather-length : (f : ℕ → List ℕ) (m n : ℕ) → ((i : ℕ) → i < n → length (f i) ≤ m) → length (gather n f) ≤ n * m
+pub gather-length : (f : ℕ → List ℕ) (m n : ℕ) → ((i : ℕ) → i < n → length (f i) ≤ m) → length (gather n f) ≤ n * m
 unfolding gather
 gather-length f m zero h = omega arith
 gather-length f m (suc n) h =

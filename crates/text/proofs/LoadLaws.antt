@@ -9,7 +9,7 @@ use mathlib.Core.Path.{_≡_, refl, sym, ap, subst, _∙_}
 use mathlib.Core.List.{List, [], _∷_, _++_, append-assoc, append-nil}
 use lib.Dec.{eqb, lit≤}
 use lib.ListN.{length, getD, take, drop, set, replicate, length-set, drop-of-length-le}
-use lib.Seq.{drop-cons, drop-drop, take-all, take-suc-set}
+use lib.Seq.{drop-cons, take-all, take-suc-set}
 use borrow.Author.Tests.{lt-ltb, le-ltb, eq-eqb, ne-eqb}
 use Rattle.figuring.specs.Grid.{gridYears}
 use Rattle.figuring.specs.Years.{firstYear}
@@ -20,12 +20,13 @@ use Rattle.text.specs.declared.tables.YearRow.{YearRow}
 use Rattle.text.specs.Pattern.{fit, hashes, figures, figuresOf, padded}
 use Rattle.text.specs.Line.{longestLine, mostDigits}
 use Rattle.text.specs.Lines.{linesFrom, linesOf}
-use Rattle.text.specs.TableText.{stdForm, ofYear, rowIn, Read, table, refused, withRow, onRow, rowsFrom, tableOf}
-use Rattle.text.specs.TableText.{loadingOf, keptTable}
-use Rattle.text.specs.TableReading.{firstLine, afterLine, lineEnd, yearRow}
+use Rattle.text.specs.Loads.{Read, accepted, refused, loadingOf, kept}
+use Rattle.text.specs.TableText.{stdForm, ofYear, rowIn, withRow, onRow, rowsFrom, tableOf}
+use Rattle.text.specs.FirstLine.{afterLine, lineEnd}
+use Rattle.text.specs.TableReading.{yearRow}
 use Rattle.text.proofs.FormLaws.{listed}
 use Rattle.text.proofs.RenderLaws.{fit-fills}
-use Rattle.text.proofs.FirstLineLaws.{first-taken}
+use Rattle.text.proofs.FirstLineLaws.{line-at, after-at}
 use Rattle.text.proofs.TableRowsLaws.{onward, too-many}
 
 -- ---- the row of a line
@@ -84,26 +85,26 @@ some-in (some row) e h = rw e
 
 -- ---- what is answered
 pub answered :
-    (s : List ℕ) (old : Table) {r : Read} → tableOf s ≡ r
-    → (loadingOf r ≡ loadingOf (tableOf s)) × (keptTable r old ≡ keptTable (tableOf s) old)
+    (s : List ℕ) (old : Table) {r : Read Table} → tableOf s ≡ r
+    → (loadingOf r ≡ loadingOf (tableOf s)) × (kept r old ≡ kept (tableOf s) old)
 answered s old e = rw e (refl, refl)
 
 -- ---- the loop
 -- rows before those that are read
-abbrev withRows : Table → Read → Read
-withRows rows (table t) = table (rows ++ t)
+abbrev withRows : Table → Read Table → Read Table
+withRows rows (accepted t) = accepted (rows ++ t)
 withRows rows (refused r) = refused r
 
-with-none : (q : Read) → q ≡ withRows [] q
-with-none (table t) = refl
+with-none : (q : Read Table) → q ≡ withRows [] q
+with-none (accepted t) = refl
 with-none (refused r) = refl
 
-with-one : (rows : Table) (row : List ℕ) (q : Read) → withRows rows (withRow row q) ≡ withRows (rows ++ (row ∷ [])) q
-with-one rows row (table t) = ap {B = Read} table (sym (append-assoc rows (row ∷ []) t))
+with-one : (rows : Table) (row : List ℕ) (q : Read Table) → withRows rows (withRow row q) ≡ withRows (rows ++ (row ∷ [])) q
+with-one rows row (accepted t) = ap {B = Read Table} accepted (sym (append-assoc rows (row ∷ []) t))
 with-one rows row (refused r) = refl
 
 -- what the lines from a place on come to, after those of i years, of which the last has the row `before`
-abbrev linesAt : List ℕ → ℕ → ℕ → List ℕ → Read
+abbrev linesAt : List ℕ → ℕ → ℕ → List ℕ → Read Table
 linesAt text at i before = rowsFrom (gridYears - i) (firstYear + i) before (linesOf (drop at text))
 
 -- the rows of i years stand in the grid, the last of them is `before`, and the next line begins at `at`
@@ -120,24 +121,14 @@ start text =
 
 module _ {text : List ℕ} {grid : Table} {before : List ℕ} {at i : ℕ} (h : Loaded text grid before at i) where
   module _ (more : i < gridYears) {end : ℕ} (ends : end ≡ lineEnd text at) where
-    line-is : take (end - at) (drop at text) ≡ firstLine (drop at text)
-    line-is =
-        let e : end - at ≡ length (firstLine (drop at text)) = omega arith in
-        rw e (first-taken (drop at text))
-
     next-is : drop (min (end + 1) (length text)) text ≡ afterLine (drop at text)
     next-is = go (decLe (end + 1) (length text))
       where
-        whole : drop (end + 1) text ≡ afterLine (drop at text)
-        whole =
-            let e : end + 1 ≡ at + suc (length (firstLine (drop at text))) = omega arith in
-            rw e (sym (drop-drop (suc (length (firstLine (drop at text)))) at text))
-
         go : Dec (end + 1 ≤ length text) → drop (min (end + 1) (length text)) text ≡ afterLine (drop at text)
-        go (yes l) = let e : min (end + 1) (length text) ≡ end + 1 = omega arith in rw e whole
+        go (yes l) = let e : min (end + 1) (length text) ≡ end + 1 = omega arith in rw e (after-at text at ends)
         go (no l) =
             drop-of-length-le text {i = min (end + 1) (length text)} (omega arith)
-            ∙ sym (drop-of-length-le text {i = end + 1} (omega arith)) ∙ whole
+            ∙ sym (drop-of-length-le text {i = end + 1} (omega arith)) ∙ after-at text at ends
 
     step :
         (o : Option (List ℕ)) → rowIn (firstYear + i) (take (end - at) (drop at text)) ≡ o
@@ -149,7 +140,7 @@ module _ {text : List ℕ} {grid : Table} {before : List ℕ} {at i : ℕ} (h : 
         h .rest
         ∙ ap (λ (n : ℕ). withRows (take i grid) (rowsFrom n (firstYear + i) before (linesOf (drop at text)))) q
         ∙ ap (withRows (take i grid)) (onward (gridYears - (i + 1)) (firstYear + i) before (drop at text))
-        ∙ rw (y, next-is, ← line-is, e)
+        ∙ rw (y, next-is, ← line-at text at ends, e)
 
     module _ {r : YearRow} (read : r ≡ yearRow (rowIn (firstYear + i) (take (end - at) (drop at text)))) where
       pub no-line : r .is ≡ false → tableOf text ≡ refused NotATable
@@ -184,6 +175,6 @@ module _ {text : List ℕ} {grid : Table} {before : List ℕ} {at i : ℕ} (h : 
     pub line-more : at < length text → tableOf text ≡ refused NotATable
     line-more l = left ∙ rw (drop-cons text at 0 l, too-many (firstYear + i) before (getD text at 0) (drop (suc at) text))
 
-    pub whole-table : length text ≤ at → tableOf text ≡ table grid
+    pub whole-table : length text ≤ at → tableOf text ≡ accepted grid
     unfolding rowsFrom linesFrom
     whole-table l = left ∙ rw (drop-of-length-le text l, append-nil grid)

@@ -1,5 +1,6 @@
 -- A text fits a pattern just where it is the pattern filled with numbers of few enough digits.
-use Prim.Native.Nat.{ℕ, suc, _≤_, _<_}
+use Prim.Native.Nat.{ℕ, suc, _^_, _≤_, _<_}
+use native.Mathlib.Nat.{pow-le-pow-right}
 use native.Mathlib.Omega.{arith}
 use mathlib.Core.Bool.{Bool, true, false, not, cond, _&&_, false≢true}
 use mathlib.Core.Path.{_≡_, refl, sym, ap, _∙_}
@@ -11,7 +12,7 @@ use lib.Seq.{drop-at}
 use borrow.Author.Tests.{eqb-true, eq-eqb, not-true}
 use Rattle.text.specs.declared.numbers.Number.{Number}
 use Rattle.figuring.proofs.BoolLaws.{both}
-use Rattle.text.specs.Numeral.{number, numeral, digit}
+use Rattle.text.specs.Numeral.{number, numeral, digit, leading}
 use Rattle.text.specs.Pattern.{fit, filled, hashes, onNumber, onByte, prepended, hash}
 use Rattle.text.specs.Rendered.{Small}
 use Rattle.text.proofs.CanonLaws.{read-is, numeral-read, stops}
@@ -129,23 +130,65 @@ fills-fit most o m (p ∷ ps) ns e l h = go (eqb p hash) refl e l (fills-fit mos
     go true a e l ih = rw a (numb ns e l h ih)
     go false a e l ih = rw (a, eq-eqb p p refl) (ih ns e l h)
 
--- two patterns that differ in a byte before any #
+-- two patterns that differ: in a byte, or in that the first has a number where the second has a byte that is no digit;
+-- after nothing but bytes and numbers that they share
 unfoldable pub apart : List ℕ → List ℕ → Bool
 apart [] q = false
 apart (a ∷ p) [] = false
-apart (a ∷ p) (b ∷ q) = (not (eqb a hash) && not (eqb b hash)) && cond (eqb b a) (apart p q) true
+apart (a ∷ p) (b ∷ q) =
+    let r = apart p q in
+    cond (eqb a hash) (cond (eqb b hash) (plain q && r) (not (digit b)))
+    (not (eqb b hash) && cond (eqb b a) r true)
 
-pub apart-unfit : (most : ℕ) (p q ns : List ℕ) → apart p q ≡ true → fit most p (filled q ns) ≡ none
-unfolding fit filled apart
-apart-unfit most [] q ns e = absurd (false≢true e)
-apart-unfit most (a ∷ p) [] ns e = absurd (false≢true e)
-apart-unfit most (a ∷ p) (b ∷ q) ns e =
-    let w = both (not (eqb a hash) && not (eqb b hash)) (cond (eqb b a) (apart p q) true) e in
-    let v = both (not (eqb a hash)) (not (eqb b hash)) (w .0) in
-    rw (not-true (eqb a hash) (v .0), not-true (eqb b hash) (v .1)) (go (eqb b a) (w .1) (apart-unfit most p q ns))
-  where
-    go :
-        (x : Bool) → cond x (apart p q) true ≡ true → (apart p q ≡ true → fit most p (filled q ns) ≡ none)
-        → cond x (fit most p (filled q ns)) none ≡ none
-    go true e ih = ih e
-    go false e ih = refl
+no-number : (most b : ℕ) (s : List ℕ) → digit b ≡ false → number most (b ∷ s) ≡ Number.Nothing
+unfolding number leading
+no-number most b s e = rw e
+
+-- a pattern does not fit what another, apart from it, is filled to
+module _ (most : ℕ) (o : 0 < most) (m : most ≤ 18) where
+  pub apart-unfit : (p q ns : List ℕ) → apart p q ≡ true → Small most ns → fit most p (filled q ns) ≡ none
+  unfolding fit filled apart
+  apart-unfit [] q ns e h = absurd (false≢true e)
+  apart-unfit (a ∷ p) [] ns e h = absurd (false≢true e)
+  apart-unfit (a ∷ p) (b ∷ q) ns e h = go (eqb a hash) refl (eqb b hash) refl e (apart-unfit p q)
+    where
+      -- the number that both have is read, and the rest is apart
+      shared :
+          (n : ℕ) (ns : List ℕ) → n < 10 ^ most → plain q ≡ true → fit most p (filled q ns) ≡ none
+          → onNumber (number most (numeral n ++ filled q ns))
+          (λ v k. prepended (v ∷ []) (fit most p (drop k (numeral n ++ filled q ns)))) ≡ none
+      shared n ns h e f =
+          rw (
+            numeral-read most n (filled q ns) o m h (plain-stops q ns e),
+            drop-at (numeral n) (filled q ns) (length (numeral n)) refl,
+            f,
+          )
+
+      numb :
+          (ns : List ℕ) → Small most ns → (plain q && apart p q) ≡ true
+          → ((ns : List ℕ) → apart p q ≡ true → Small most ns → fit most p (filled q ns) ≡ none)
+          → onNumber (number most (numeral (getD ns 0 0) ++ filled q (drop 1 ns)))
+          (λ v k. prepended (v ∷ []) (fit most p (drop k (numeral (getD ns 0 0) ++ filled q (drop 1 ns))))) ≡ none
+      numb [] h e ih =
+          let w = both (plain q) (apart p q) e in
+          let o = pow-le-pow-right {n = 10} (omega arith) {i = 0} {j = most} (omega arith) in
+          shared 0 [] (omega (arith, o)) (w .0) (ih [] (w .1) tt)
+      numb (n ∷ ns) h e ih =
+          let w = both (plain q) (apart p q) e in
+          shared n ns (h .0) (w .0) (ih ns (w .1) (h .1))
+
+      byte :
+          (x : Bool) → cond x (apart p q) true ≡ true → (apart p q ≡ true → fit most p (filled q ns) ≡ none)
+          → cond x (fit most p (filled q ns)) none ≡ none
+      byte true e ih = ih e
+      byte false e ih = refl
+
+      go :
+          (x : Bool) → eqb a hash ≡ x → (y : Bool) → eqb b hash ≡ y
+          → cond x (cond y (plain q && apart p q) (not (digit b))) (not y && cond (eqb b a) (apart p q) true) ≡ true
+          → ((ns : List ℕ) → apart p q ≡ true → Small most ns → fit most p (filled q ns) ≡ none)
+          → fit most (a ∷ p) (filled (b ∷ q) ns) ≡ none
+      go true u true v e ih = rw (u, v) (numb ns h e ih)
+      go true u false v e ih = rw (u, v, no-number most b (filled q ns) (not-true (digit b) e))
+      go false u true v e ih = absurd (false≢true e)
+      go false u false v e ih = rw (u, v) (byte (eqb b a) e (λ f. ih ns f h))

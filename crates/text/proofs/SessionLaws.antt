@@ -10,7 +10,6 @@ use lib.ListN.{length, take, length-append}
 use lib.Seq.{take-all, take-append-le, length-take-le}
 use borrow.Author.Tests.{lt-ltb, ne-eqb}
 use Rattle.figuring.specs.Tables.{Table}
-use Rattle.book.specs.Postings.{freshBook}
 use Rattle.book.specs.declared.ledger.Book.{Book}
 use Rattle.text.specs.Line.{lineAt, lineOf, longestLine}
 use Rattle.text.specs.Answers.{answerTo, textOf}
@@ -166,6 +165,6 @@ module _ (t : Table) where
 
 pub any-chunks : AnyChunks
 unfolding terminal
-any-chunks t cs =
-    let w = comes t freshBook [] [] (joined cs) in
-    chunked t opened cs ∙ rw (w .book-is, w .said-is)
+any-chunks t b cs =
+    let w = comes t b [] [] (joined cs) in
+    chunked t (opened b) cs ∙ rw (w .book-is, w .said-is)

@@ -8,8 +8,9 @@ use mathlib.Core.Path.{_≡_, sym, ap, _∙_}
 use mathlib.Core.List.{List, [], _∷_, _++_}
 use lib.ListN.{length, getD, set, take, drop, length-append}
 use lib.Seq.{sets as overwritten, sets-eq, take-at, take-suc, length-sets, length-take-le}
+use borrow.Author.Tests.{leb-true}
 use Rattle.text.specs.declared.placing.Placed.{Placed}
-use Rattle.text.specs.Placing.{Stands, Puts}
+use Rattle.text.specs.Placing.{Stands, Puts, roomFor}
 
 pub overwritten-append :
     (a b l : List ℕ) (i : ℕ) → overwritten (overwritten l i a) (i + length a) b ≡ overwritten l i (a ++ b)
@@ -78,3 +79,12 @@ pub put-stands :
     {room : Bool} {text out out′ : List ℕ} {at : ℕ} {r : Placed} → room ≡ true → Puts room text at out r out′
     → Stands text at out (r .at) out′
 put-stands e h = record { end-is = rw e at (h .at-is); out-is = rw e at (h .out-is) }
+
+-- a text that fitted ends within the buffer
+pub fits-in :
+    {text out out′ : List ℕ} {at : ℕ} {r : Placed} → Puts (roomFor (length text) at out) text at out r out′
+    → r .fits ≡ true → r .at ≤ length out′
+fits-in {text} {out} {out′} {at} p f =
+    let e = sym (p .fits-is) ∙ f in
+    let s = put-stands e p in
+    omega (arith, s .end-is, same-long s, leb-true (at + length text) (length out) e)

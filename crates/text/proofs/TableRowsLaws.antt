@@ -15,9 +15,10 @@ use Rattle.book.specs.declared.answers.Refusal.the-variants.{NotATable}
 use Rattle.text.specs.Pattern.{filled}
 use Rattle.text.specs.Desk.{lineFeed}
 use Rattle.text.specs.Lines.{linesFrom, linesOf}
-use Rattle.text.specs.TableText.{stdForm, rowIn, Read, table, refused, onFit, onRow, rowsFrom, tableOf}
+use Rattle.text.specs.Loads.{Read, accepted, refused}
+use Rattle.text.specs.TableText.{stdForm, rowIn, onFit, onRow, rowsFrom, tableOf}
 use Rattle.text.specs.TableText.{linesFor, Wide, Whole, IsTableText}
-use Rattle.text.specs.TableReading.{firstLine, afterLine}
+use Rattle.text.specs.FirstLine.{firstLine, afterLine}
 use Rattle.text.proofs.FirstLineLaws.{parted, first-lines}
 use Rattle.text.proofs.RowLaws.{IsRow, row-is, empty-line}
 use Rattle.text.proofs.RowLaws.{Follow, follow-accepted}
@@ -36,30 +37,30 @@ unfolding rowsFrom
 too-many y before b s = ap (rowsFrom zero y before) (first-lines b s)
 
 -- a refusal is no table
-pub not-read : {X : Type 0} {r : Refusal} {t : Table} → refused r ≡ table t → X
+pub not-read : {X : Type 0} {r : Refusal} {t : Table} → refused r ≡ accepted t → X
 not-read e = let z : _≡_ {A = ℕ} 0 1 = cc in absurd (omega arith)
 
 -- a line, and those after it, that are read as a table: the line is a row, which may follow the one before
-record ReadOn (before : List ℕ) (o : Option (List ℕ)) (rest : List ℕ → Read) (t : Table) : Type 0 where
+record ReadOn (before : List ℕ) (o : Option (List ℕ)) (rest : List ℕ → Read Table) (t : Table) : Type 0 where
   row : List ℕ
   rows : Table
   is : row ∷ rows ≡ t
   line : o ≡ some row
   fits : rowFits before row ≡ true
-  after : rest row ≡ table rows
+  after : rest row ≡ accepted rows
 
 read-on :
-    (before : List ℕ) (o : Option (List ℕ)) (rest : List ℕ → Read) (t : Table) → onRow before o rest ≡ table t
+    (before : List ℕ) (o : Option (List ℕ)) (rest : List ℕ → Read Table) (t : Table) → onRow before o rest ≡ accepted t
     → ReadOn before o rest t
 read-on before none rest t e = not-read e
 read-on before (some row) rest t e = go (rowFits before row) refl (rest row) refl e
   where
     go :
-        (b : Bool) → rowFits before row ≡ b → (q : Read) → rest row ≡ q → onFit b row q ≡ table t
+        (b : Bool) → rowFits before row ≡ b → (q : Read Table) → rest row ≡ q → onFit b row q ≡ accepted t
         → ReadOn before (some row) rest t
     go false f q p e = not-read e
     go true f (refused r) p e = not-read e
-    go true f (table rows) p e =
+    go true f (accepted rows) p e =
         let z : row ∷ rows ≡ t = cc in
         record { row = row; rows = rows; is = z; line = refl; fits = f; after = p }
 
@@ -73,14 +74,14 @@ record Rows (n y : ℕ) (before s : List ℕ) (t : Table) : Type 0 where
   wide : Wide t
   follow : Follow before t
 
-no-lines : (n y : ℕ) (before : List ℕ) (t : Table) → rowsFrom n y before [] ≡ table t → t ≡ []
+no-lines : (n y : ℕ) (before : List ℕ) (t : Table) → rowsFrom n y before [] ≡ accepted t → t ≡ []
 unfolding rowsFrom
 no-lines zero y before t e = let z : [] ≡ t = cc in sym z
 no-lines (suc n) y before t e = not-read e
 
 -- the line l of a row, and after it the rows of the rest
 line-on :
-    (n y : ℕ) (s l rest row : List ℕ) (t : Table) → IsRow y l row → rowsFrom n (suc y) row (linesOf rest) ≡ table t
+    (n y : ℕ) (s l rest row : List ℕ) (t : Table) → IsRow y l row → rowsFrom n (suc y) row (linesOf rest) ≡ accepted t
     → IsRows (suc y) rest t → ((s ≡ l) × (rest ≡ [])) ⊎ (s ≡ l ++ lineFeed ∷ rest) → IsRows y s (row ∷ t)
 unfolding linesFor linesFrom
 line-on n y s l rest row t i e h (inl p) =
@@ -91,7 +92,7 @@ line-on n y s l rest row t i e (inr h) (inr p) =
     inr (rw (p, i .text, append-assoc (filled stdForm (y ∷ row)) (lineFeed ∷ rest) (lineFeed ∷ []), h))
 
 only-rows :
-    (n y : ℕ) (before s : List ℕ) (t : Table) → rowsFrom n y before (linesOf s) ≡ table t → Rows n y before s t
+    (n y : ℕ) (before s : List ℕ) (t : Table) → rowsFrom n y before (linesOf s) ≡ accepted t → Rows n y before s t
 unfolding rowsFrom linesFrom linesFor
 only-rows zero y before [] t e =
     let z : [] ≡ t = cc in
@@ -108,7 +109,7 @@ only-rows (suc n) y before s t e =
       follow = (r .fits, w .follow);
     })
 
-pub only : (s : List ℕ) (t : Table) → tableOf s ≡ table t → IsTableText s t × (Whole t × (acceptedTable t ≡ true))
+pub only : (s : List ℕ) (t : Table) → tableOf s ≡ accepted t → IsTableText s t × (Whole t × (acceptedTable t ≡ true))
 unfolding tableOf
 only s t e =
     let w = only-rows gridYears firstYear noRow s t e in

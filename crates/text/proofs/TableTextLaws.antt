@@ -18,9 +18,10 @@ use Rattle.text.specs.Pattern.{filled}
 use Rattle.text.specs.Line.{mostDigits}
 use Rattle.text.specs.Desk.{lineFeed}
 use Rattle.text.specs.Lines.{linesFrom, linesOf}
-use Rattle.text.specs.TableText.{stdForm, rowIn, Read, table, refused, onFit, onRow, rowsFrom, tableOf}
+use Rattle.text.specs.Loads.{Read, accepted, refused}
+use Rattle.text.specs.TableText.{stdForm, rowIn, onFit, onRow, rowsFrom, tableOf}
 use Rattle.text.specs.TableText.{linesFor, Wide, Whole, IsTableText, tableRoom, TableTexts}
-use Rattle.text.specs.TableReading.{firstLine, afterLine}
+use Rattle.text.specs.FirstLine.{firstLine, afterLine}
 use Rattle.text.proofs.SessionLaws.{lines}
 use Rattle.text.proofs.FirstLineLaws.{noFeed, one-filled, first-cut, after-cut}
 use Rattle.text.proofs.RowLaws.{row-is, row-read, row-cut, row-small}
@@ -73,7 +74,7 @@ first-row y s row t (inr e) =
 
 each-rows :
     (t : Table) (y : ℕ) (before s : List ℕ) → y + length t ≤ 10 ^ mostDigits → Follow before t → Wide t → IsRows y s t
-    → rowsFrom (length t) y before (linesOf s) ≡ table t
+    → rowsFrom (length t) y before (linesOf s) ≡ accepted t
 unfolding rowsFrom linesFrom linesFor
 each-rows [] y before s h f w (inl e) = rw e
 each-rows [] y before s h f w (inr e) = absurd (omega (arith, simp length-append at (ap length e)))
@@ -84,7 +85,7 @@ each-rows (row ∷ t) y before s h f w i =
     ap (rowsFrom (suc (length t)) y before) (r .1)
     ∙ rw (k, f .0, each-rows t (suc y) row (r .0) (omega arith) (f .1) (w .1) (r .2))
 
-each : (s : List ℕ) (t : Table) → IsTableText s t → Whole t → acceptedTable t ≡ true → tableOf s ≡ table t
+each : (s : List ℕ) (t : Table) → IsTableText s t → Whole t → acceptedTable t ≡ true → tableOf s ≡ accepted t
 unfolding tableOf
 each s t i w e =
     rw (← w .rows)
@@ -95,14 +96,14 @@ abbrev OfTables : Refusal → Type 0
 OfTables r = (r ≡ NotATable) ⊎ (r ≡ UnfitTable)
 
 refused-on :
-    (before : List ℕ) (o : Option (List ℕ)) (rest : List ℕ → Read) (r : Refusal)
+    (before : List ℕ) (o : Option (List ℕ)) (rest : List ℕ → Read Table) (r : Refusal)
     → ((row : List ℕ) → rest row ≡ refused r → OfTables r) → onRow before o rest ≡ refused r → OfTables r
 refused-on before none rest r ih e = let z : NotATable ≡ r = cc in inl (sym z)
 refused-on before (some row) rest r ih e = go (rowFits before row) (rest row) refl e
   where
-    go : (b : Bool) (q : Read) → rest row ≡ q → onFit b row q ≡ refused r → OfTables r
+    go : (b : Bool) (q : Read Table) → rest row ≡ q → onFit b row q ≡ refused r → OfTables r
     go false q p e = let z : UnfitTable ≡ r = cc in inr (sym z)
-    go true (table t) p e = not-read (sym e)
+    go true (accepted t) p e = not-read (sym e)
     go true (refused a) p e = ih row (p ∙ e)
 
 refusals :

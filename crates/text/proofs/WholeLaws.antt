@@ -13,6 +13,7 @@ use borrow.Author.Tests.{le-leb}
 use borrow.Rule.Slice.PartMut.{midOf, postOf, putMid, post-is}
 use Rattle.figuring.specs.Tables.{Table}
 use Rattle.text.specs.declared.answering.Step.{Step}
+use Rattle.book.specs.declared.ledger.Book.{Book}
 use Rattle.text.specs.declared.desk.Desk.{Desk}
 use Rattle.text.specs.declared.desk.Reply.{Reply}
 use Rattle.text.specs.Placing.{Stands}
@@ -81,18 +82,18 @@ module _ (t : Table) where
       go false = omega arith
 
 -- ---- the input in one chunk
-module _ (t : Table) (input : List ℕ) where
+module _ (t : Table) (b : Book) (input : List ℕ) where
   -- the terminal that has taken it
   abbrev taken : Terminal
-  taken = takesAll t opened input
+  taken = takesAll t (opened b) input
 
   one-chunk :
-      taken .said ++ (ends t (written taken) .said ++ listing (ends t (written taken) .book)) ≡ terminal t input
+      taken .said ++ (ends t (written taken) .said ++ listing (ends t (written taken) .book)) ≡ terminal t b input
   unfolding inChunks joined
-  one-chunk = any-chunks t (input ∷ []) ∙ ap (terminal t) (append-nil input)
+  one-chunk = any-chunks t b (input ∷ []) ∙ ap (terminal t b) (append-nil input)
 
   module _ {out out₁ : List ℕ} {d : Desk} {f : Reply} (room : sessionRoom (length input) ≤ length out)
-      (begun : d ≡ openDesk)
+      (begun : d ≡ openDesk b)
       (replied : RepliedBy (leb (length input) (length out / answerRoom)) d (takesAll t (atDesk d) input) out f out₁)
     where
       answers : Serves taken out f out₁
@@ -102,7 +103,7 @@ module _ (t : Table) (input : List ℕ) where
       stands = record { end-is = answers .at-is ∙ omega arith; out-is = answers .out-is }
 
       pub last-room : f .at + answerRoom ≤ length out₁
-      last-room = omega (arith, stands .end-is, same-long stands, said-length t opened input)
+      last-room = omega (arith, stands .end-is, same-long stands, said-length t (opened b) input)
 
       left : atDesk (f .desk) ≡ written taken
       left = rw (answers .book-is, answers .held-is)
@@ -115,7 +116,7 @@ module _ (t : Table) (input : List ℕ) where
               arith,
               stands .end-is,
               same-long stands,
-              said-length t opened input,
+              said-length t (opened b) input,
               ended .1 .end-is,
               same-long (ended .1),
               ends-length t (atDesk (f .desk)),
@@ -123,9 +124,9 @@ module _ (t : Table) (input : List ℕ) where
 
         pub whole :
             {r : ℕ} {out₃ : List ℕ} → Stands (listing (s .book)) (s .at) out₂ r out₃
-            → Stands (terminal t input) 0 out r out₃
+            → Stands (terminal t b input) 0 out r out₃
         whole h =
-            let b : s .book ≡ ends t (written taken) .book = ended .0 ∙ ap (λ (x : Terminal). ends t x .book) left in
+            let left-book : s .book ≡ ends t (written taken) .book = ended .0 ∙ ap (λ (x : Terminal). ends t x .book) left in
             let e : Stands (ends t (written taken) .said) (f .at) out₁ (s .at) out₂ =
             as-text (ap (λ (x : Terminal). ends t x .said) left) (ended .1) in
-            as-text one-chunk (after-text stands (after-text e (as-text (ap listing b) h)))
+            as-text one-chunk (after-text stands (after-text e (as-text (ap listing left-book) h)))

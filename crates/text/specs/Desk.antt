@@ -9,7 +9,6 @@ use lib.ListN.{length, take, replicate}
 use lib.Seq.{sets as overwritten}
 use Rattle.figuring.specs.Tables.{Table}
 use Rattle.book.specs.declared.ledger.Book.{Book}
-use Rattle.book.specs.Postings.{freshBook}
 use Rattle.text.specs.declared.desk.Desk.{Desk}
 use Rattle.text.specs.declared.desk.Reply.{Reply}
 use Rattle.text.specs.Answers.{textOf, answerTo}
@@ -69,8 +68,8 @@ holdingFirst b held len said = record { book = b; held = take len held; said = s
 abbrev pub atDesk : Desk → Terminal
 atDesk d = holdingFirst (d .book) (d .held) (d .len) []
 
-abbrev pub openDesk : Desk
-openDesk = record { book = freshBook; held = replicate mostHeld 0; len = 0 }
+abbrev pub openDesk : Book → Desk
+openDesk b = record { book = b; held = replicate mostHeld 0; len = 0 }
 
 -- the desk after a call is a terminal's, and the buffer starts with what the terminal has said
 pub record Serves (x : Terminal) (out : List ℕ) (r : Reply) (out′ : List ℕ) : Type 0 where

@@ -13,12 +13,12 @@ use Rattle.figuring.specs.Grid.{gridYears, gridColumns}
 use Rattle.figuring.specs.Tables.{Table, noRow, rowFits, acceptedTable}
 use Rattle.book.specs.declared.answers.Refusal.{Refusal}
 use Rattle.book.specs.declared.answers.Refusal.the-variants.{NotATable, UnfitTable}
-use Rattle.text.specs.declared.tables.Loading.{Loading}
 use Rattle.text.specs.Ascii.{ascii}
 use Rattle.text.specs.Pattern.{fit, filled}
 use Rattle.text.specs.Line.{longestLine, mostDigits}
 use Rattle.text.specs.Desk.{lineFeed}
 use Rattle.text.specs.Lines.{linesOf}
+use Rattle.text.specs.Loads.{Read, accepted, refused}
 
 -- "24 lines `(std 2014 a b c d e f)`": a year, and its row
 abbrev pub stdForm : List ℕ
@@ -37,29 +37,24 @@ ofYear y (some (n ∷ row)) = cond (eqb n y) (some row) none
 unfoldable pub rowIn : ℕ → List ℕ → Option (List ℕ)
 rowIn y s = cond (ltb longestLine (length s)) none (ofYear y (fit mostDigits stdForm s))
 
--- what a text comes to: a table, or a refusal
-pub data Read : Type 0 where
-  table : Table → Read
-  refused : Refusal → Read
-
 -- a row before the others
-abbrev pub withRow : List ℕ → Read → Read
-withRow row (table t) = table (row ∷ t)
+abbrev pub withRow : List ℕ → Read Table → Read Table
+withRow row (accepted t) = accepted (row ∷ t)
 withRow row (refused r) = refused r
 
 -- a row, and then what follows it; 20 where "an entry breaks the limits or rises"
-abbrev pub onFit : Bool → List ℕ → Read → Read
+abbrev pub onFit : Bool → List ℕ → Read Table → Read Table
 onFit true row rest = withRow row rest
 onFit false row rest = refused UnfitTable
 
 -- in one line "19 before 20"
-abbrev pub onRow : List ℕ → Option (List ℕ) → (List ℕ → Read) → Read
+abbrev pub onRow : List ℕ → Option (List ℕ) → (List ℕ → Read Table) → Read Table
 onRow before none rest = refused NotATable
 onRow before (some row) rest = onFit (rowFits before row) row (rest row)
 
 -- the lines of n years, "rising by one" from y on, after the row of the year before: "The first line at fault decides"
-unfoldable pub rowsFrom : ℕ → ℕ → List ℕ → List (List ℕ) → Read
-rowsFrom zero y before [] = table []
+unfoldable pub rowsFrom : ℕ → ℕ → List ℕ → List (List ℕ) → Read Table
+rowsFrom zero y before [] = accepted []
 -- one line "too many", whatever it says
 rowsFrom zero y before (l ∷ ls) = refused NotATable
 -- a line "is missing"
@@ -67,17 +62,8 @@ rowsFrom (suc n) y before [] = refused NotATable
 rowsFrom (suc n) y before (l ∷ ls) = onRow before (rowIn y l) (λ row. rowsFrom n (suc y) row ls)
 
 -- what a text is read as, for any bytes
-unfoldable pub tableOf : List ℕ → Read
+unfoldable pub tableOf : List ℕ → Read Table
 tableOf s = rowsFrom gridYears firstYear noRow (linesOf s)
-
--- what the reader answers, and the table that it was lent: the one read, or as it was
-abbrev pub loadingOf : Read → Loading
-loadingOf (table t) = Loading.Loaded
-loadingOf (refused r) = Loading.Refused r
-
-abbrev pub keptTable : Read → Table → Table
-keptTable (table t) old = t
-keptTable (refused r) old = old
 
 -- ---- writing
 
@@ -138,9 +124,9 @@ tableRoom = 3865
 
 pub record TableTexts : Type 0 where
   -- a text that is accepted is the written text of its table, and its table is an accepted one
-  pub only : (s : List ℕ) (t : Table) → tableOf s ≡ table t → IsTableText s t × (Whole t × (acceptedTable t ≡ true))
+  pub only : (s : List ℕ) (t : Table) → tableOf s ≡ accepted t → IsTableText s t × (Whole t × (acceptedTable t ≡ true))
   -- the written text of an accepted table, with or without its last line feed, is read as that table
-  pub each : (s : List ℕ) (t : Table) → IsTableText s t → Whole t → acceptedTable t ≡ true → tableOf s ≡ table t
+  pub each : (s : List ℕ) (t : Table) → IsTableText s t → Whole t → acceptedTable t ≡ true → tableOf s ≡ accepted t
   -- by which refusal, whatever comes after the first line at fault
   pub faults : (s : List ℕ) (ls : List (List ℕ)) (rows : Table) → Right 2014 noRow ls rows → Faults s ls rows
   -- no text is refused but by 19 or 20

@@ -3,11 +3,14 @@
 ghost use mathlib.Core.Bool.{true};
 ghost use mathlib.Core.Path.{_≡_};
 ghost use Rattle.text.specs.Answers.{ByText};
+ghost use Rattle.text.specs.BookExamples.{BookEdges};
+ghost use Rattle.text.specs.BookOrder.{RankOrders};
 ghost use Rattle.text.specs.Desk.{ByWhatIsHeld};
 ghost use Rattle.text.specs.Examples.{Edges, Fields, Run};
 ghost use Rattle.text.specs.Lines.{Lines};
 ghost use Rattle.text.specs.Program.{AnyChunks};
 ghost use Rattle.text.specs.Rendered.{CanBeTyped, Reads};
+ghost use Rattle.text.specs.RoundTrip.{Exact, Room, RoundTrip};
 ghost use Rattle.text.specs.TableText.{TableTexts};
 ghost use Rattle.figuring.specs.Tables.{Table};
 ghost use Rattle.book.specs.declared.ledger.Book.{Book};
@@ -76,6 +79,36 @@ pub fn run_of_the_paper() -> bool
 // What lies at the edges of a form and of a line.
 pub fn edges_of_the_forms() -> bool
     ensures { λ r. ⌜ (r ≡ true) × Edges ⌝ }
+{
+    true
+}
+
+// A sound book written and read is the same book, and an accepted text written again has the same bytes. What is read in
+// is sound. A text gets 22 exactly where no book is written as it, of the figures that a text can hold.
+pub fn books_by_their_text() -> bool
+    ensures { λ r. ⌜ (r ≡ true) × RoundTrip × Exact ⌝ }
+{
+    true
+}
+
+// The lines of a book's text are in the order of the card's groups, each rising by its first three figures.
+pub fn lines_in_order() -> bool
+    ensures { λ r. ⌜ (r ≡ true) × RankOrders ⌝ }
+{
+    true
+}
+
+// No book's text is longer than BOOK_ROOM, so a longer text gets 22 by its length alone, and its first BOOK_ROOM + 1
+// bytes decide.
+pub fn room_of_a_book() -> bool
+    ensures { λ r. ⌜ (r ≡ true) × Room ⌝ }
+{
+    true
+}
+
+// What lies at the edges of a book's text.
+pub fn edges_of_a_book() -> bool
+    ensures { λ r. ⌜ (r ≡ true) × BookEdges ⌝ }
 {
     true
 }

@@ -13,7 +13,6 @@ use crate::serving::MOST_HELD;
 use crate::serving::next_line;
 use crate::serving::serve;
 use book::ledger::Book;
-use book::ledger::fresh;
 use figuring::tables::Table;
 
 // The book, and the first len bytes of a line that has not ended yet. What lies past len is nobody's: a call may leave
@@ -31,10 +30,10 @@ pub struct Reply {
     pub at: usize,
 }
 
-pub fn open_desk() -> Desk
-    ensures { λ r. ⌜ r ≡ openDesk ⌝ }
+// A desk that begins with this book.
+pub fn open_desk(book: Book) -> Desk
+    ensures { λ r. ⌜ r ≡ openDesk book ⌝ }
 {
-    let book = fresh();
     Desk {
         book,
         held: [0; MOST_HELD],

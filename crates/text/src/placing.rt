@@ -9,7 +9,7 @@ pub struct Placed {
 }
 
 // Puts a text into out from at on.
-pub(crate) fn put_bytes(out: &mut [u8], at: usize, text: &[u8]) -> Placed
+pub fn put_bytes(out: &mut [u8], at: usize, text: &[u8]) -> Placed
     ensures { λ r. ⌜ Puts (roomFor (length (now (text .entry))) at (now (out .entry))) (now (text .entry)) at
         (now (out .entry)) r (now (out .exit)) ⌝ }
 {

@@ -1,8 +1,11 @@
 // "A reader carries the lent line along with its place": the line's slice and a position. Few thin functions: they take
-// it apart and call the covered reader of a slice and a number. `read_line` has a plain parameter, so that its callers
-// need no proof by hand.
+// it apart and call the covered reader of a slice and a number. `read_line` and `next_entry` have plain parameters, so
+// that their callers need no proof by hand. Over a book's text a reader carries its place from line to line.
 ghost use mathlib.Core.Path.{_≡_};
+ghost use Rattle.text.specs.EntryReading.{nextEntry};
 ghost use Rattle.text.specs.Line.{lineAt, lineOf};
+use crate::entry_lines::NextEntry;
+use crate::entry_lines::entry_at;
 use crate::lines::Line;
 use crate::lines::form_at;
 
@@ -30,4 +33,18 @@ pub fn read_line(line: &[u8]) -> Line
     ensures { λ r. ⌜ r ≡ lineOf (now (line .entry)) ⌝ }
 {
     form(new(line))
+}
+
+// The entry of the line that begins at the reader's place.
+pub fn entry<'a>(r: Reader<'a>) -> NextEntry
+    ensures { λ n. ⌜ n ≡ nextEntry (now (r .entry .line)) (r .entry .at) ⌝ }
+{
+    entry_at(r.line, r.at)
+}
+
+// The entry of the line that begins at a place of a text, and where the next one begins.
+pub fn next_entry(text: &[u8], at: usize) -> NextEntry
+    ensures { λ r. ⌜ r ≡ nextEntry (now (text .entry)) at ⌝ }
+{
+    entry(Reader { line: text, at })
 }

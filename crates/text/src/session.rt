@@ -19,11 +19,11 @@ use crate::placing::Placed;
 use book::ledger::Book;
 use figuring::tables::Table;
 
-// Begun on a fresh book, with any table: the answers to the input's lines, then the listing, at out's start. out has room
-// if it has ANSWER_ROOM bytes for each byte of the input and for one line more, and LISTING_ROOM; if not, it is as it was.
-pub fn session(table: Table, input: &[u8], out: &mut [u8]) -> Placed
+// Begun on any book, with any table: the answers to the input's lines, then the listing, at out's start. out has room if
+// it has ANSWER_ROOM bytes for each byte of the input and for one line more, and LISTING_ROOM; if not, it is as it was.
+pub fn session(table: Table, book: Book, input: &[u8], out: &mut [u8]) -> Placed
     ensures { λ r. ⌜ Puts (roomFor (sessionRoom (length (now (input .entry)))) 0 (now (out .entry)))
-        (terminal table (now (input .entry))) 0 (now (out .entry)) r (now (out .exit)) ⌝ }
+        (terminal table book (now (input .entry))) 0 (now (out .entry)) r (now (out .exit)) ⌝ }
     ensures { λ r. ⌜ (r .at ≤ length (now (out .exit))) × (r .at ≡ length (take (r .at) (now (out .exit)))) ⌝ }
 {
     if out.len() < LISTING_ROOM + ANSWER_ROOM {
@@ -33,20 +33,20 @@ pub fn session(table: Table, input: &[u8], out: &mut [u8]) -> Placed
     if (out.len() - LISTING_ROOM - ANSWER_ROOM) / ANSWER_ROOM < input.len() {
         return Placed { fits: false, at: 0 };
     }
-    let w = put_session(table, input, out);
+    let w = put_session(table, book, input, out);
     Placed { fits: true, at: w }
 }
 
-fn put_session(table: Table, input: &[u8], out: &mut [u8]) -> usize
+fn put_session(table: Table, book: Book, input: &[u8], out: &mut [u8]) -> usize
     requires { ⌜ sessionRoom (length (now input)) ≤ length (now out) ⌝ }
-    ensures { λ r. ⌜ Stands (terminal table (now (input .entry))) 0 (now (out .entry)) r (now (out .exit)) ⌝ }
+    ensures { λ r. ⌜ Stands (terminal table book (now (input .entry))) 0 (now (out .entry)) r (now (out .exit)) ⌝ }
     ensures { λ r. ⌜ r ≤ length (now (out .exit)) ⌝ }
 {
-    let reply = take_in(open_desk(), table, input, out);
+    let reply = take_in(open_desk(book), table, input, out);
     let desk = reply.desk;
     let ended = last_at(out, reply.at, desk, table);
-    let book = ended.book;
-    listing_at(out, ended.at, book)
+    let after = ended.book;
+    listing_at(out, ended.at, after)
 }
 
 // The end of the input, answered from at on.

@@ -1,12 +1,14 @@
 // Card 7: the text of a table of standards, `std.txt`, read line by line into rows, each held against the one before.
 ghost use mathlib.Core.Option.{none};
 ghost use mathlib.Core.Path.{_≡_};
-ghost use Prim.Native.Nat.{_+_, _≤_, min};
-ghost use lib.ListN.{length};
-ghost use Rattle.text.specs.TableReading.{lineEnd, yearRow};
-ghost use Rattle.text.specs.TableText.{keptTable, loadingOf, rowIn, tableOf};
+ghost use Rattle.text.specs.Loads.{kept, loadingOf};
+ghost use Rattle.text.specs.TableReading.{yearRow};
+ghost use Rattle.text.specs.TableText.{rowIn, tableOf};
+use crate::first_line::line_after;
+use crate::first_line::line_end;
 use crate::lines::LONGEST_LINE;
 use crate::lines::MOST_DIGITS;
+use crate::loading::Loading;
 use crate::patterns::fitted;
 use book::answers::Refusal;
 use figuring::grid::COLUMNS;
@@ -18,12 +20,6 @@ use figuring::years::FIRST_YEAR;
 // So many bytes of a text decide, whatever its length: `first-bytes` of TableTexts. A reader needs no more of them.
 pub const TABLE_ROOM: usize = 3_865;
 
-// That a table was read and is accepted; or the refusal.
-pub enum Loading {
-    Loaded,
-    Refused(Refusal),
-}
-
 // The row of a line, if it is one.
 struct YearRow {
     is: bool,
@@ -33,7 +29,7 @@ struct YearRow {
 // Reads the text of a table, for any bytes. The lent table becomes the one read, or stays as it was.
 pub fn load_table(text: &[u8], table: &mut Table) -> Loading
     ensures { λ r. ⌜ (r ≡ loadingOf (tableOf (now (text .entry))))
-        × (now (table .exit) ≡ keptTable (tableOf (now (text .entry))) (now (table .entry))) ⌝ }
+        × (now (table .exit) ≡ kept (tableOf (now (text .entry))) (now (table .entry))) ⌝ }
 {
     let mut grid = [[0u64; COLUMNS]; YEARS];
     let mut before = [0u64; COLUMNS];
@@ -60,28 +56,6 @@ pub fn load_table(text: &[u8], table: &mut Table) -> Loading
     }
     *table = grid;
     Loading::Loaded
-}
-
-// Where the line that begins at a place ends: at its line feed, or at the end of the text.
-fn line_end(text: &[u8], at: usize) -> usize
-    requires { ⌜ at ≤ length (now text) ⌝ }
-    ensures { λ r. ⌜ (r ≡ lineEnd (now (text .entry)) at) × (r ≤ length (now (text .entry))) ⌝ }
-{
-    let mut i = at;
-    while i < text.len() {
-        if text[i] == b'\n' {
-            return i;
-        }
-        i += 1;
-    }
-    i
-}
-
-// Where the next line begins.
-fn line_after(end: usize, len: usize) -> usize
-    ensures { λ r. ⌜ r ≡ min (end + 1) len ⌝ }
-{
-    if end < len { end + 1 } else { len }
 }
 
 // The row of a line, if it has the form and is the year's.

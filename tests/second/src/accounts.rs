@@ -1,8 +1,9 @@
 //! The accounts of a whole list of calls: fed the calls' arguments, the table
 //! that each was handed, and, of each answer, only whether it was a refusal.
-//! Nothing is read from a book.
+//! Of the book that the list begins with they have their opening figures;
+//! nothing else is read from a book.
 
-use crate::book::{cell, CELLS, MAKERS, SETS};
+use crate::book::{cell, Book, CELLS, FAMILIES, MAKERS, SETS};
 use crate::figuring::{part, rounded, year_index, Part, YEARS};
 use crate::postings::{Call, Filing};
 use crate::standards::Table;
@@ -13,8 +14,12 @@ use std::collections::BTreeMap;
 /// more than 2^63 calls of any 64-bit amount.
 #[derive(Clone, Debug, Default, PartialEq, Eq)]
 pub struct Account {
-    /// Each family's, as last accepted; all else is Mg.
+    /// Each family's, as last accepted, or as it was when the list began; all
+    /// else is Mg.
     pub parts: BTreeMap<u64, Part>,
+    /// What the lot and the shortage were when the list began.
+    pub opening_lot: i128,
+    pub opening_shortage: i128,
     pub earned: i128,
     pub shortfall: i128,
     pub bought: i128,
@@ -31,11 +36,12 @@ impl Account {
     }
 
     pub fn lot(&self) -> i128 {
-        self.earned + self.bought - self.sold - self.applied - self.retired
+        let into = self.opening_lot + self.earned + self.bought;
+        into - self.sold - self.applied - self.retired
     }
 
     pub fn shortage(&self) -> i128 {
-        self.shortfall - self.covered
+        self.opening_shortage + self.shortfall - self.covered
     }
 
     fn close(&mut self) {
@@ -67,6 +73,22 @@ impl Default for Accounts {
 }
 
 impl Accounts {
+    /// Of a list that begins with this book.
+    pub fn opened(book: &Book) -> Self {
+        let mut accounts = Accounts::default();
+        for (cell, years) in accounts.by_cell.iter_mut().enumerate() {
+            for (year, account) in years.iter_mut().enumerate() {
+                account.opening_lot = book.lots[cell][year].0.into();
+                account.opening_shortage = book.shortages[cell][year].0.into();
+            }
+            // In 2038 the families of a book are no year's that can be closed.
+            if let Some(year) = year_index(book.open_year) {
+                years[year].parts = filed_parts(book, cell);
+            }
+        }
+        accounts
+    }
+
     /// Takes the next call of the list, with its table.
     pub fn feed(&mut self, table: &Table, call: &Call, accepted: bool) -> Result<(), OutOfPlace> {
         if !accepted {
@@ -122,6 +144,13 @@ impl Accounts {
         }
         Ok(())
     }
+}
+
+fn filed_parts(book: &Book, cell: usize) -> BTreeMap<u64, Part> {
+    (0..FAMILIES)
+        .filter(|family| book.marks[cell] >> family & 1 == 1)
+        .map(|family| (family as u64, book.parts[cell][family]))
+        .collect()
 }
 
 /// The place of a maker, set and year in arrays by cell and year.

@@ -22,6 +22,13 @@ pub struct Audit {
 }
 
 impl Audit {
+    /// Of a list that begins with this book.
+    pub fn opened(book: &Book) -> Self {
+        Audit {
+            accounts: Accounts::opened(book),
+        }
+    }
+
     /// Takes the next call with its table, whether it was accepted, and the book
     /// around it.
     pub fn judge(

@@ -3,10 +3,10 @@
 //! against it.
 //!
 //! `standards`, `figuring`, `book` and `postings` are the rules; `text` and
-//! `listing` the terminal, `std_text` its tables; `accounts` and `audit` the
-//! claims about a whole list of calls; `session` runs a terminal session;
-//! `generate` writes sessions and tables for testing; `asked` and `room` serve
-//! the commands that run another program.
+//! `listing` the terminal, `std_text` its tables, `written` a whole book as text;
+//! `accounts` and `audit` the claims about a whole list of calls; `session` runs
+//! a terminal session; `generate` writes sessions, tables and texts for testing;
+//! `asked` and `room` serve the commands that run another program.
 
 #![forbid(unsafe_code)]
 
@@ -23,3 +23,4 @@ pub mod session;
 pub mod standards;
 pub mod std_text;
 pub mod text;
+pub mod written;

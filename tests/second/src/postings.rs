@@ -71,7 +71,8 @@ pub enum Results {
 /// The refusal list; each value is the paper's number. `Table` is checked
 /// between `UnsoundBook` and `Maker`, `NoEdition` between `NoStandard` and
 /// `Family`, and `NotFiled` stands in an amendment in place of `AlreadyFiled`.
-/// `StdLine` is of a table's text alone.
+/// `StdLine` is of a table's text alone; `ShortBuffer` is of a book that is
+/// written, after `UnsoundBook`, and `NotABook` of one that is read, before it.
 #[derive(Clone, Copy, Debug, PartialEq, Eq)]
 pub enum Refusal {
     NoForm = 1,
@@ -94,6 +95,8 @@ pub enum Refusal {
     NotFiled = 18,
     StdLine = 19,
     Table = 20,
+    ShortBuffer = 21,
+    NotABook = 22,
 }
 
 impl Refusal {

@@ -2,7 +2,7 @@
 //! `std.txt` that is meant for it, or none.
 
 use std::ffi::{OsStr, OsString};
-use std::fs;
+use std::fs::{self, DirEntry};
 use std::io::{self, ErrorKind};
 use std::path::{Path, PathBuf};
 use std::process::Command;
@@ -36,14 +36,27 @@ impl Room {
         Ok(path)
     }
 
+    /// Nothing where there is no such file.
+    pub fn read(&self, name: &str) -> io::Result<Option<Vec<u8>>> {
+        absent_is_none(fs::read(self.0.join(name)))
+    }
+
+    /// A file that may be there.
+    pub fn remove(&self, name: &str) -> io::Result<()> {
+        absent_is_none(fs::remove_file(self.0.join(name))).map(drop)
+    }
+
+    /// Of all that is here.
+    pub fn names(&self) -> io::Result<Vec<String>> {
+        let name = |entry: io::Result<DirEntry>| Ok(entry?.file_name().to_string_lossy().into());
+        fs::read_dir(&self.0)?.map(name).collect()
+    }
+
     /// From now on programs find this text of standards here, or none.
     pub fn lay_out(&self, std: Option<&[u8]>) -> io::Result<()> {
         match std {
             Some(text) => self.write(STD, text).map(drop),
-            None => match fs::remove_file(self.0.join(STD)) {
-                Err(error) if error.kind() != ErrorKind::NotFound => Err(error),
-                _ => Ok(()),
-            },
+            None => self.remove(STD),
         }
     }
 
@@ -58,6 +71,13 @@ impl Room {
 impl Drop for Room {
     fn drop(&mut self) {
         let _ = fs::remove_dir_all(&self.0);
+    }
+}
+
+fn absent_is_none<T>(found: io::Result<T>) -> io::Result<Option<T>> {
+    match found {
+        Err(error) if error.kind() == ErrorKind::NotFound => Ok(None),
+        found => found.map(Some),
     }
 }
 

@@ -37,16 +37,21 @@ pub struct Session<W> {
 }
 
 impl<W: Write> Session<W> {
-    /// Begins with a fresh book, and hands this table to every filing and
+    /// Begins with a fresh book.
+    pub fn new(out: W, table: Table, audited: bool) -> Self {
+        Session::begun(Book::fresh(), out, table, audited)
+    }
+
+    /// Begins with this book, and hands this table to every filing and
     /// amendment; `audited` sessions also keep the accounts and hold the paper's
     /// claims at every call.
-    pub fn new(out: W, table: Table, audited: bool) -> Self {
+    pub fn begun(book: Book, out: W, table: Table, audited: bool) -> Self {
         Session {
             lines: Lines::default(),
             terminal: Terminal {
-                book: Book::fresh(),
+                watch: audited.then(|| Watch::opened(&book)),
+                book,
                 table,
-                watch: audited.then(Watch::default),
                 line: 0,
                 out,
             },
@@ -59,13 +64,28 @@ impl<W: Write> Session<W> {
     }
 
     /// Answers a last line without line feed, lists the cells and gives the
-    /// output back.
-    pub fn finish(mut self) -> Result<W, Halt> {
+    /// output back, with the book as it is then.
+    pub fn finish(mut self) -> Result<(W, Book), Halt> {
         if let Some(line) = self.lines.last() {
             self.terminal.answer(&line)?;
         }
         self.terminal.finish()
     }
+}
+
+/// The output of a whole audited session that begins with this book, handed
+/// over in pieces, and the book at its end.
+pub fn answers(
+    book: Book,
+    table: &Table,
+    input: &[u8],
+    piece: usize,
+) -> Result<(Vec<u8>, Book), Halt> {
+    let mut session = Session::begun(book, Vec::new(), table.clone(), true);
+    for bytes in input.chunks(piece) {
+        session.feed(bytes)?;
+    }
+    session.finish()
 }
 
 struct Terminal<W> {
@@ -97,7 +117,7 @@ impl<W: Write> Terminal<W> {
             .map_err(|Violation(claim)| Halt::Violation { line, claim })
     }
 
-    fn finish(mut self) -> Result<W, Halt> {
+    fn finish(mut self) -> Result<(W, Book), Halt> {
         if let Some(watch) = &self.watch {
             let line = self.line;
             watch
@@ -107,18 +127,24 @@ impl<W: Write> Terminal<W> {
         }
         list(&self.book, &mut self.out)?;
         self.out.flush()?;
-        Ok(self.out)
+        Ok((self.out, self.book))
     }
 }
 
 /// Posts under the audit's eye.
-#[derive(Default)]
 struct Watch {
     audit: Audit,
     before: Book,
 }
 
 impl Watch {
+    fn opened(book: &Book) -> Self {
+        Watch {
+            audit: Audit::opened(book),
+            before: book.clone(),
+        }
+    }
+
     fn post(&mut self, book: &mut Book, table: &Table, call: &Call) -> Result<Answer, Violation> {
         self.before.clone_from(book);
         let answer = post(book, table, call);

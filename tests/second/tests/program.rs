@@ -1,11 +1,11 @@
 //! Card 7: where the program `second` takes its standards from.
 
+mod common;
+
+use common::program::{answered, gives, run, told, unread};
 use second::room::{Room, STD};
 use second::standards::Table;
-use std::ffi::OsStr;
-use std::fs::{self, File};
-use std::io::Seek;
-use std::process::Output;
+use std::fs;
 
 /// Under a standard of 500 the part is 1, by the built-in table 68.
 const INPUT: &str = "(file (maker 0) (set 3) (year 2014) (use 0) (edition 0) (family 0) \
@@ -16,48 +16,17 @@ fn office() -> String {
     Table([[500; 6]; 24]).to_string()
 }
 
-/// What the program gives in a room, and how many bytes of its input it read.
-fn run(room: &Room, arguments: &[&str]) -> (Output, u64) {
-    let input = room.write("input", INPUT.as_bytes()).expect("written");
-    let mut input = File::open(input).expect("opened");
-    let output = room
-        .command(OsStr::new(env!("CARGO_BIN_EXE_second")))
-        .expect("built")
-        .args(arguments)
-        .stdin(input.try_clone().expect("shared"))
-        .output()
-        .expect("run");
-    (output, input.stream_position().expect("told"))
-}
-
-/// The output of a run that must end well; whether it read its input.
-fn gives(room: &Room, arguments: &[&str]) -> (String, bool) {
-    let (output, read) = run(room, arguments);
-    assert_eq!(output.status.code(), Some(0));
-    assert!(output.stderr.is_empty());
-    let said = String::from_utf8(output.stdout).expect("plain text");
-    (said, read > 0)
-}
-
-fn answered(text: &str) -> (String, bool) {
-    (text.into(), true)
-}
-
-fn unread(text: &str) -> (String, bool) {
-    (text.into(), false)
-}
-
 #[test]
 fn the_standards_are_those_of_std_txt_or_built_in() {
     let room = Room::new().expect("made");
     for arguments in [&[][..], &["--no-accounts"]] {
         room.lay_out(None).expect("laid out");
-        assert_eq!(gives(&room, arguments), answered("(ok 68 1)\n"));
+        assert_eq!(gives(&room, arguments, INPUT), answered("(ok 68 1)\n"));
         room.lay_out(Some(office().as_bytes())).expect("laid out");
-        assert_eq!(gives(&room, arguments), answered("(ok 1 1)\n"));
+        assert_eq!(gives(&room, arguments, INPUT), answered("(ok 1 1)\n"));
         let built_in = Table::built_in().to_string();
         room.lay_out(Some(built_in.as_bytes())).expect("laid out");
-        assert_eq!(gives(&room, arguments), answered("(ok 68 1)\n"));
+        assert_eq!(gives(&room, arguments, INPUT), answered("(ok 68 1)\n"));
     }
 }
 
@@ -74,7 +43,7 @@ fn standards_at_fault_are_the_whole_answer() {
     ] {
         room.lay_out(Some(text.as_bytes())).expect("laid out");
         for arguments in [&[][..], &["--no-accounts"], &["--std", STD]] {
-            assert_eq!(gives(&room, arguments), unread(answer));
+            assert_eq!(gives(&room, arguments, INPUT), unread(answer));
         }
     }
 }
@@ -90,28 +59,24 @@ fn a_named_file_takes_the_place_of_std_txt() {
         &["--std", "office.std", "--no-accounts"],
         &["--no-accounts", "--std", "office.std"],
     ] {
-        assert_eq!(gives(&room, arguments), answered("(ok 1 1)\n"));
+        assert_eq!(gives(&room, arguments, INPUT), answered("(ok 1 1)\n"));
     }
-}
-
-/// Told, and nothing is posted.
-fn told(room: &Room, arguments: &[&str], why: &str) {
-    let (output, read) = run(room, arguments);
-    assert_eq!((output.status.code(), read), (Some(1), 0));
-    assert!(output.stdout.is_empty());
-    let said = String::from_utf8_lossy(&output.stderr).into_owned();
-    assert!(said.starts_with(&format!("second: {why}: ")), "{said}");
 }
 
 #[test]
 fn standards_that_cannot_be_read_are_told() {
     let room = Room::new().expect("made");
     fs::create_dir(room.path().join(STD)).expect("made");
-    told(&room, &[], STD);
-    told(&room, &["--no-accounts"], STD);
-    told(&room, &["--std", "."], ".");
-    // A file that is named must be there.
-    told(&room, &["--std", "missing"], "missing");
+    for (arguments, why) in [
+        (&[][..], STD),
+        (&["--no-accounts"], STD),
+        (&["--std", "."], "."),
+        // A file that is named must be there.
+        (&["--std", "missing"], "missing"),
+    ] {
+        // Nothing is posted.
+        assert_eq!(told(&room, arguments, INPUT, why), unread(""));
+    }
 }
 
 #[test]
@@ -124,7 +89,7 @@ fn other_arguments_are_refused() {
         &["--accounts"],
         &["office.std"],
     ] {
-        let (output, read) = run(&room, arguments);
+        let (output, read) = run(&room, arguments, INPUT);
         assert_eq!((output.status.code(), read), (Some(2), 0));
         assert!(output.stdout.is_empty() && !output.stderr.is_empty());
     }

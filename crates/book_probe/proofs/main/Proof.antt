@@ -1,16 +1,17 @@
--- The two buffers keep their lengths; the turns left fall, and the last turn sets them to 0.
+-- The three buffers keep their lengths; the turns left fall, and the last turn sets them to 0.
 use mathlib.Core.Path.{_≡_}
 use lib.ListN.{length}
 use borrow.Author.Needs.{needs}
-use Rattle.book_probe.specs.Sizes.{answerBytes, recordBytes}
+use Rattle.book_probe.specs.Sizes.{answerBytes, recordBytes, textBytes}
 use Rattle.book_probe.proofs.main.Statement.{statement}
 use Rattle.book_probe.proofs.main.Tie as tie
 
 abbrev Inv-loop : tie.InvT-loop
-Inv-loop input₀ out₀ turns₀ input out turns = (recordBytes ≡ length input) × (answerBytes ≡ length out)
+Inv-loop input₀ bytes₀ out₀ turns₀ input bytes out turns =
+    (recordBytes ≡ length input) × ((textBytes ≡ length bytes) × (answerBytes ≡ length out))
 
 abbrev μ-loop : tie.MeasureT-loop
-μ-loop input₀ out₀ turns₀ input out turns = turns
+μ-loop input₀ bytes₀ out₀ turns₀ input bytes out turns = turns
 
 loop-holds : tie.Need-loop-holds Inv-loop μ-loop
 loop-holds c = search needs
@@ -20,6 +21,9 @@ slice-aggregate-turn c = search needs
 
 slice-aggregate-turn-2 : tie.Need-slice-aggregate-turn-2 Inv-loop μ-loop
 slice-aggregate-turn-2 c = search needs
+
+slice-aggregate-turn-3 : tie.Need-slice-aggregate-turn-3 Inv-loop μ-loop
+slice-aggregate-turn-3 c = search needs
 
 turn-requires : tie.Need-turn-requires Inv-loop μ-loop
 turn-requires c κs = search needs
@@ -51,6 +55,7 @@ main-spec =
     loop-holds
     slice-aggregate-turn
     slice-aggregate-turn-2
+    slice-aggregate-turn-3
     turn-requires
     sub-turns
     loop-less

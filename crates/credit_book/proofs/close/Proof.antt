@@ -14,8 +14,8 @@ same-length c = search needs
 
 returns : tie.Need-returns
 returns c =
-    lists {said = c .before .before .before .before .before .before .before .before .answer-last .result}
-    (c .before .before .before .before .before .before .before .before .answer-last .ensures)
+    lists {said = c .before .before .before .before .before .before .before .before .before .before .answer-last .result}
+    (c .before .before .before .before .before .before .before .before .before .before .answer-last .ensures)
     (c .before .before .before .before .if1 .taken) (c .before .before .list-cells .ensures)
 
 unwritten-requires : tie.Need-unwritten-requires
@@ -26,8 +26,8 @@ same-length-2 c = search needs
 
 returns-2 : tie.Need-returns-2
 returns-2 c =
-    lists-nothing {said = c .before .before .before .before .before .answer-last .result}
-    (c .before .before .before .before .before .answer-last .ensures) (c .before .if1 .left) (c .unwritten .ensures)
+    lists-nothing {said = c .before .before .before .before .before .before .before .answer-last .result}
+    (c .before .before .before .before .before .before .before .answer-last .ensures) (c .before .if1 .left) (c .unwritten .ensures)
 
 pub close-spec : {M : Type 1} → statement M
 close-spec =

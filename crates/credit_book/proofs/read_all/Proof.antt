@@ -1,4 +1,4 @@
--- The loop's invariant is what has been read so far (TurnLaws); the turns left fall.
+-- The loop's invariant is what has been read so far, from the first desk's book on (TurnLaws); the turns left fall.
 use Prim.Native.Nat.{_-_, _<_}
 use mathlib.Core.Bool.{true≢false}
 use mathlib.Core.Path.{sym, _∙_}
@@ -8,12 +8,12 @@ use lib.Dec.{lit≤}
 use borrow.Author.Needs.{needs}
 use borrow.Author.Tests.{ltb-true, ltb-false}
 use Rattle.credit_book.specs.Turns.{mostTurns}
-use Rattle.credit_book.proofs.TurnLaws.{SoFar, none-yet, next}
+use Rattle.credit_book.proofs.TurnLaws.{SoFar, none-yet, next, on-its-book}
 use Rattle.credit_book.proofs.read_all.Statement.{statement}
 use Rattle.credit_book.proofs.read_all.Tie as tie
 
 abbrev Inv-loop : tie.InvT-loop
-Inv-loop table out₀ desk₀ turns₀ more₀ fine₀ out desk turns more fine = SoFar table out₀ out desk turns more fine
+Inv-loop table out₀ desk₀ turns₀ more₀ fine₀ out desk turns more fine = SoFar table (desk₀ .book) out₀ out desk turns more fine
 
 abbrev μ-loop : tie.MeasureT-loop
 μ-loop table out₀ desk₀ turns₀ more₀ fine₀ out desk turns more fine = mostTurns - turns
@@ -63,9 +63,10 @@ same-length c = c .before .before .loop .inv .long
 returns : tie.Need-returns Inv-loop μ-loop
 returns c =
     let g = c .before .before .loop .inv in
+    let begun = c .before .before .before .open-desk .ensures in
     record {
       chunks = g .chunks;
-      reading = g .reading;
+      reading = on-its-book begun (g .reading);
       counts = g .counts;
       used-up = λ _. omega (arith, g .within, ltb-false);
     }
@@ -76,9 +77,10 @@ same-length-2 c = c .before .loop .inv .long
 returns-2 : tie.Need-returns-2 Inv-loop μ-loop
 returns-2 c =
     let g = c .before .loop .inv in
+    let begun = c .before .before .open-desk .ensures in
     record {
       chunks = g .chunks;
-      reading = g .reading;
+      reading = on-its-book begun (g .reading);
       counts = g .counts;
       used-up = λ e. absurd (true≢false (sym e ∙ c .loop-test .left));
     }

@@ -27,24 +27,24 @@ returns c =
       read = read;
       closes = λ _. c .before .before .close .ensures;
       unclosed = λ f. absurd (true≢false (sym e ∙ f));
-      whole = whole-run _ _ _ _ _ (read .reading);
+      whole = whole-run _ _ _ _ _ _ (read .reading);
     }
 
-unwritten-requires : tie.Need-unwritten-requires
-unwritten-requires c κs = search needs
+unclosed-requires : tie.Need-unclosed-requires
+unclosed-requires c κs = search needs
 
 same-length-2 : tie.Need-same-length-2
 same-length-2 c = search needs
 
 returns-2 : tie.Need-returns-2
 returns-2 c =
-    let e = sym (c .before .before .at-end .ensures) ∙ c .before .if1 .left in
-    let read = c .before .before .before .before .before .read-all .ensures in
+    let e = sym (c .before .before .before .at-end .ensures) ∙ c .before .before .if1 .left in
+    let read = c .before .before .before .before .before .before .read-all .ensures in
     record {
       read = read;
       closes = λ t. absurd (true≢false (sym t ∙ e));
-      unclosed = λ _. (c .unwritten .ensures, c .unwritten .ensures);
-      whole = whole-run _ _ _ _ _ (read .reading);
+      unclosed = λ _. c .unclosed .ensures;
+      whole = whole-run _ _ _ _ _ _ (read .reading);
     }
 
 pub run-spec : {M : Type 1} → statement M
@@ -56,6 +56,6 @@ run-spec =
     close-requires
     same-length
     returns
-    unwritten-requires
+    unclosed-requires
     same-length-2
     returns-2)

@@ -1,19 +1,26 @@
-//! `sessions KIND SEED [LINES [STD-FILE]]`: writes a generated session to
-//! standard output, aimed at the standards of that file, or at the built-in
-//! ones; `sessions std SEED` writes a generated text of standards.
+//! `sessions KIND SEED [LINES [STD-FILE [BOOK-FILE]]]`: writes a generated
+//! session to standard output, aimed at the standards of that file, or at the
+//! built-in ones (also by `-`), and at the book of that file, or at a fresh one;
+//! `sessions std SEED` writes a generated text of standards, and `sessions
+//! book SEED` one of a book.
 
+use second::book::Book;
+use second::generate::book_texts::book_text;
 use second::generate::std_texts::std_text;
-use second::generate::{session_under, Kind};
+use second::generate::{session_on, Kind};
 use second::standards::Table;
 use second::std_text::read_table;
+use second::written::read_from;
 use std::fs::File;
 use std::io::{self, Write};
 use std::process::ExitCode;
 
 const MOST_LINES: usize = 100_000_000;
+const BUILT_IN: &str = "-";
 const USAGE: &str =
-    "sessions years|hostile|mixed|full|bench|single|standards SEED [LINES [STD-FILE]]
-       sessions std SEED";
+    "sessions years|hostile|mixed|full|bench|single|standards SEED [LINES [STD-FILE [BOOK-FILE]]]
+       sessions std SEED
+       sessions book SEED";
 
 fn main() -> ExitCode {
     let arguments: Vec<String> = std::env::args_os()
@@ -40,11 +47,15 @@ enum Asked<'a> {
     Std {
         seed: u64,
     },
+    Book {
+        seed: u64,
+    },
     Session {
         kind: Kind,
         seed: u64,
         lines: usize,
         std: Option<&'a String>,
+        book: Option<&'a String>,
     },
 }
 
@@ -52,12 +63,14 @@ impl Asked<'_> {
     fn text(&self) -> io::Result<Vec<u8>> {
         match *self {
             Asked::Std { seed } => Ok(std_text(seed)),
+            Asked::Book { seed } => Ok(book_text(seed)),
             Asked::Session {
                 kind,
                 seed,
                 lines,
                 std,
-            } => Ok(session_under(&table(std)?, kind, seed, lines)),
+                book,
+            } => Ok(session_on(&begun(book)?, &table(std)?, kind, seed, lines)),
         }
     }
 }
@@ -70,13 +83,22 @@ fn table(std: Option<&String>) -> io::Result<Table> {
     Ok(table.unwrap_or_else(Table::built_in))
 }
 
+/// Likewise a fresh book.
+fn begun(book: Option<&String>) -> io::Result<Book> {
+    let read = book.map(|path| File::open(path).and_then(read_from));
+    let book = read.transpose()?.and_then(Result::ok);
+    Ok(book.unwrap_or_default())
+}
+
 fn asked(arguments: &[String]) -> Option<Asked<'_>> {
     let (kind, seed, more) = match arguments {
-        [kind, seed, more @ ..] if more.len() <= 2 => (kind, seed.parse().ok()?, more),
+        [kind, seed, more @ ..] if more.len() <= 3 => (kind, seed.parse().ok()?, more),
         _ => return None,
     };
-    if kind == "std" {
-        return more.is_empty().then_some(Asked::Std { seed });
+    match kind.as_str() {
+        "std" => return more.is_empty().then_some(Asked::Std { seed }),
+        "book" => return more.is_empty().then_some(Asked::Book { seed }),
+        _ => {}
     }
     let kind: Kind = kind.parse().ok()?;
     let lines = match more.first() {
@@ -87,6 +109,7 @@ fn asked(arguments: &[String]) -> Option<Asked<'_>> {
         kind,
         seed,
         lines,
-        std: more.get(1),
+        std: more.get(1).filter(|&path| path != BUILT_IN),
+        book: more.get(2),
     })
 }

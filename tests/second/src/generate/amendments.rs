@@ -2,23 +2,51 @@
 
 use super::bent::Bent;
 use super::full::at_the_limits;
+use super::years::names;
 use super::Script;
-use crate::book::{FAMILIES, MAKERS, SETS};
-use crate::figuring::{MAX_CF, MAX_FCL, MAX_LIFE, MAX_VOLUME};
+use crate::book::{Book, CELLS, FAMILIES, MAKERS, SETS};
+use crate::figuring::{Figures, MAX_CF, MAX_FCL, MAX_LIFE, MAX_VOLUME};
 use crate::postings::{Call, Filing};
+use crate::standards::Table;
 
 /// The form in which a family's figures are sent: a filing or an amendment.
 pub(super) type Form = fn(Filing) -> Call;
 
 /// The families that were accepted this year, and in the year before it, with
 /// their last figures. The latest stands last.
-#[derive(Default)]
 pub(super) struct Families {
     filed: Vec<Filing>,
     before: Vec<Filing>,
 }
 
 impl Families {
+    /// Those that a book has, each with figures that it could have been filed
+    /// with: all that is known of it is its part.
+    pub(super) fn opened(book: &Book, table: &Table) -> Self {
+        let places = (0..CELLS).flat_map(|cell| (0..FAMILIES).map(move |family| (cell, family)));
+        let filed = places.filter(|&(cell, family)| book.marks[cell] >> family & 1 == 1);
+        let filings = filed.filter_map(|(cell, family)| {
+            let (maker, set) = names(cell);
+            let year = book.open_year;
+            Some(Filing {
+                maker,
+                set,
+                year,
+                usage: 0,
+                edition: 0,
+                family: family as u64,
+                figures: Figures {
+                    fcl: table.standard(set, 0, year)?,
+                    ..at_the_limits(1)
+                },
+            })
+        });
+        Families {
+            filed: filings.collect(),
+            before: Vec::new(),
+        }
+    }
+
     /// Takes a call that was accepted.
     pub(super) fn take(&mut self, call: &Call) {
         match call {

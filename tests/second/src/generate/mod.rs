@@ -1,12 +1,17 @@
 //! Sessions for testing, the same ones for the same kind, seed, length and
-//! table; and tables, and texts of tables.
+//! table; and tables and books, and texts of them.
 
 mod amendments;
+mod bends;
 mod bent;
+mod book_bends;
+pub mod book_texts;
+pub mod books;
 mod editions;
 mod full;
 mod halves;
 mod hostile;
+mod lines;
 mod refusals;
 pub mod rng;
 mod standards;
@@ -94,7 +99,12 @@ pub fn session(kind: Kind, seed: u64, lines: usize) -> Vec<u8> {
 /// A session's whole input, aimed at an accepted table. Under one of its own it
 /// also has lines at the edges of that.
 pub fn session_under(table: &Table, kind: Kind, seed: u64, lines: usize) -> Vec<u8> {
-    let mut script = Script::new(table.clone(), seed);
+    session_on(&Book::fresh(), table, kind, seed, lines)
+}
+
+/// The same begun on a sound book.
+pub fn session_on(book: &Book, table: &Table, kind: Kind, seed: u64, lines: usize) -> Vec<u8> {
+    let mut script = Script::begun(book.clone(), table.clone(), seed);
     match kind {
         Kind::Years | Kind::Bench => script.years(lines),
         Kind::Hostile => script.hostile(lines),
@@ -123,11 +133,12 @@ struct Script {
 }
 
 impl Script {
-    fn new(table: Table, seed: u64) -> Self {
+    fn begun(book: Book, table: Table, seed: u64) -> Self {
         let mut rng = Rng::new(seed);
         let careless = std::array::from_fn(|_| rng.once_in(16));
         let mut script = Script {
-            book: Book::fresh(),
+            families: Families::opened(&book, &table),
+            book,
             own_table: table != Table::built_in(),
             table,
             rng,
@@ -135,7 +146,6 @@ impl Script {
             lines: 0,
             careless,
             leaning: [0; CELLS],
-            families: Families::default(),
         };
         script.lean();
         script

@@ -3,12 +3,14 @@
 #![allow(dead_code)]
 
 pub mod any;
+pub mod program;
+pub mod written;
 
 use second::book::{cell, Book};
 use second::figuring::{Figures, Mg, Part, PARTS_IN_A_MG};
 use second::generate::{session, Kind};
 use second::postings::{self, Answer, Call, Filing, Refusal, Results};
-use second::session::Session;
+use second::session::answers;
 use second::standards::Table;
 use second::text::parse;
 use std::ops::Range;
@@ -28,11 +30,13 @@ pub fn output_in_pieces(input: &[u8], piece: usize) -> String {
 
 /// The same under a table.
 pub fn output_under(table: &Table, input: &[u8], piece: usize) -> String {
-    let mut session = Session::new(Vec::new(), table.clone(), true);
-    for bytes in input.chunks(piece) {
-        session.feed(bytes).expect("every claim holds");
-    }
-    String::from_utf8(session.finish().expect("every claim holds")).expect("plain text")
+    output_begun(Book::fresh(), table, input, piece).0
+}
+
+/// The same begun on a book, and the book at its end.
+pub fn output_begun(book: Book, table: &Table, input: &[u8], piece: usize) -> (String, Book) {
+    let (output, book) = answers(book, table, input, piece).expect("every claim holds");
+    (String::from_utf8(output).expect("plain text"), book)
 }
 
 pub fn output(input: &str) -> String {

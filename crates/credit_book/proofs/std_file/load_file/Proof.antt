@@ -1,10 +1,15 @@
-use mathlib.Core.Path.{_≡_, sym, _∙_}
+use Prim.Native.Nat.{ℕ}
+use mathlib.Core.Path.{_≡_, sym, subst, _∙_}
 use lib.ListN.{take}
 use lib.Seq.{length-take-le}
 use borrow.Author.Tests.{not-true, not-false}
-use Rattle.text.specs.TableText.{Read, tableOf}
-use Rattle.credit_book.specs.StdFile.{ComesTo}
-use Rattle.credit_book.proofs.StdFileLaws.{in-buffer, comes-to, was-loaded, was-refused}
+use Rattle.figuring.specs.Tables.{Table}
+use Rattle.text.specs.Loads.{Read}
+use Rattle.text.specs.TableText.{tableOf}
+use Rattle.text.proofs.TableTextLaws.{table-texts}
+use Rattle.credit_book.specs.Files.{Pieces}
+use Rattle.credit_book.specs.StdFile.{TextComesTo}
+use Rattle.credit_book.proofs.FileLaws.{in-buffer, comes-to, was-loaded, was-refused}
 use borrow.Author.Needs.{needs}
 use Rattle.credit_book.proofs.std_file.load_file.Statement.{statement}
 use Rattle.credit_book.proofs.std_file.load_file.Tie as tie
@@ -15,11 +20,11 @@ slice-aggregate-read-text c = search needs
 read-text-requires : tie.Need-read-text-requires
 read-text-requires c κs = search needs
 
-close-requires : tie.Need-close-requires
-close-requires c κs = search needs
+slice-aggregate-end-reading : tie.Need-slice-aggregate-end-reading
+slice-aggregate-end-reading c = search needs
 
-at-end-requires : tie.Need-at-end-requires
-at-end-requires c κs = search needs
+end-reading-requires : tie.Need-end-reading-requires
+end-reading-requires c κs = search needs
 
 returns : tie.Need-returns
 returns c =
@@ -28,8 +33,10 @@ returns c =
       pieces = read .ensures .pieces;
       more = read .result .more;
       fine = read .result .fine;
-      reading = read .ensures .reading;
-      not-ended = sym (c .before .at-end .ensures) ∙ not-true (c .before .at-end .result) (c .if1 .taken);
+      reading =
+          subst (λ (n : ℕ). Pieces n (read .ensures .pieces) (read .result .more) (read .result .fine))
+          (c .before .before .before .text2 .given) (read .ensures .reading);
+      not-ended = sym (c .before .end-reading .ensures) ∙ not-true (c .before .end-reading .result) (c .if1 .taken);
     }
 
 array-share-prefix-text : tie.Need-array-share-prefix-text
@@ -49,11 +56,11 @@ enum-known-loading c = search needs
 
 -- the text was read to its end, or until the buffer was full
 whole :
-    (c : tie.Else1) {v : Read}
+    (c : tie.Else1) {v : Read Table}
     → tableOf (take (c .before .before .before .before .read-text .result .len) (c .before .before .before .before .read-text .last .1 .0)) ≡ v
-    → ComesTo v
+    → TextComesTo v
 whole c =
-    comes-to (sym (c .before .at-end .ensures) ∙ not-false (c .before .at-end .result) (c .if1 .left))
+    comes-to (table-texts .first-bytes) (c .before .before .before .text2 .given) (sym (c .before .end-reading .ensures) ∙ not-false (c .before .end-reading .result) (c .if1 .left))
     (c .before .before .before .before .read-text .ensures)
 
 returns-2 : tie.Need-returns-2
@@ -74,8 +81,8 @@ load-file-spec =
     (tie.spec
     slice-aggregate-read-text
     read-text-requires
-    close-requires
-    at-end-requires
+    slice-aggregate-end-reading
+    end-reading-requires
     returns
     array-share-prefix-text
     slice-aggregate-load-table

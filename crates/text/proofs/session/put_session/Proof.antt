@@ -14,7 +14,7 @@ last-at-requires : tie.Need-last-at-requires
 last-at-requires c κs =
     let taken = c .before .before .before .before in
     let start = taken .before .before .before .before .before in
-    last-room (start .args .table) (start .args .input .now) (start .pre) (taken .before .before .open-desk .ensures)
+    last-room (start .args .table) (start .args .book) (start .args .input .now) (start .pre) (taken .before .before .open-desk .ensures)
     (taken .take-in .ensures)
 
 listing-at-requires : tie.Need-listing-at-requires
@@ -22,7 +22,7 @@ listing-at-requires c κs =
     let ended = c .before .before .before .before in
     let taken = ended .before .before .before .before .before in
     let start = taken .before .before .before .before .before in
-    listing-room (start .args .table) (start .args .input .now) (start .pre) (taken .before .before .open-desk .ensures)
+    listing-room (start .args .table) (start .args .book) (start .args .input .now) (start .pre) (taken .before .before .open-desk .ensures)
     (taken .take-in .ensures) (ended .last-at .ensures)
 
 same-length : tie.Need-same-length
@@ -34,7 +34,7 @@ returns c =
     let ended = listed .before .before .before .before .before in
     let taken = ended .before .before .before .before .before in
     let start = taken .before .before .before .before .before in (
-      whole (start .args .table) (start .args .input .now) (start .pre) (taken .before .before .open-desk .ensures)
+      whole (start .args .table) (start .args .book) (start .args .input .now) (start .pre) (taken .before .before .open-desk .ensures)
           (taken .take-in .ensures) (ended .last-at .ensures) (listed .listing-at .ensures .0),
       listed .listing-at .ensures .1,
     )

@@ -1,12 +1,12 @@
 //! Calls: their words, and calls on a book, some with arguments at an edge.
 
 use crate::aimed::aimed;
-use second::book::{cell, Book, CELLS, LOTS_LIMIT, MAKERS, PART_LIMIT, SETS, SHORTAGE_LIMIT};
+use second::book::{cell, Book, CELLS, MAKERS, SETS};
 use second::figuring::{
     year_index, Figures, Mg, ALL_CLOSED, FIRST_YEAR, LAST_YEAR, MAX_CF, MAX_FCL, MAX_LIFE,
     MAX_VOLUME, YEARS,
 };
-use second::generate::{rng::Rng, TELLING_YEARS};
+use second::generate::{books::any, rng::Rng, TELLING_YEARS};
 use second::postings::{Application, Call, Filing, Retirement, Trade};
 use second::standards::Table;
 
@@ -20,6 +20,8 @@ pub const TRADE: usize = 2;
 pub const APPLY: usize = 3;
 pub const AMEND: usize = 5;
 pub const KINDS: usize = 6;
+/// The kind of a record that is no call but has a text.
+pub const TEXT: usize = 6;
 
 pub fn kind_of(words: &[u64; CALL_WORDS]) -> usize {
     words[0] as usize
@@ -217,22 +219,5 @@ fn huge(rng: &mut Rng, now: u64) -> u64 {
         2 => now.wrapping_add(1 << 32),
         3 => now.wrapping_add(1 << 63),
         _ => any(rng),
-    }
-}
-
-/// Any 64 bits, the ends of their ranges often.
-pub fn any(rng: &mut Rng) -> u64 {
-    let near = rng.below(3);
-    match rng.below(10) {
-        0 => near,
-        1 => u64::MAX - near,
-        2 => (1 << 63) + near,
-        3 => (1 << 63) - 1 - near,
-        4 => LOTS_LIMIT.0 + near,
-        5 => SHORTAGE_LIMIT.0 + near,
-        6 => PART_LIMIT + near,
-        7 => (PART_LIMIT + near).wrapping_neg(),
-        8 => rng.between(FIRST_YEAR - 1, ALL_CLOSED + 1),
-        _ => rng.draw(),
     }
 }

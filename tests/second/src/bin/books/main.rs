@@ -9,19 +9,29 @@
 //! values, and the book after it. A word is 64 bits, low byte first. The kinds
 //! are 0 file, 1 close, 2 trade, 3 apply, 4 retire, 5 amend. One that is none
 //! ends PROGRAM with a message, and is tried first.
+//!
+//! With `--texts` one record in three is of kind 6, followed by as many bytes as
+//! its first argument says, at most 229,441. These are read as a text with the
+//! book lent, and the book is written into them as a lent buffer. The answer is
+//! the book's soundness, the refusal when written or 0, the length or 0, the
+//! refusal when read or 0, the book after the reading, and then the bytes after
+//! the writing. More bytes than that end PROGRAM with a message.
 
 mod aimed;
+mod asking;
 mod calls;
 mod case;
-mod made;
+mod refused;
 mod tally;
+mod texts;
+mod words;
 
-use case::Case;
-use second::asked::answered;
+use asking::Asking;
+use refused::refuses_no_records;
+use second::asked::{answered, Asked};
 use second::generate::rng::Rng;
-use std::ffi::OsStr;
-use std::io::{self, BufReader, BufWriter, Read, Write};
-use std::process::{ChildStdin, Command, ExitCode, Output, Stdio};
+use std::io::{BufReader, BufWriter, Read, Write};
+use std::process::{ChildStdin, Command, ExitCode, Stdio};
 use std::sync::mpsc::{sync_channel, Receiver, SyncSender};
 use std::thread;
 use std::time::Instant;
@@ -30,13 +40,13 @@ use tally::Tally;
 const PROGRESS_EVERY: u64 = 2_000;
 /// Cases on their way to the program.
 const AHEAD: usize = 16;
-/// Kinds that are none; a remainder or a narrower type takes each for one.
-const NO_KINDS: [u64; 7] = [6, 11, 1 << 8, (1 << 8) + 5, 1 << 16, 1 << 32, 1 << 63];
 
 fn main() -> ExitCode {
-    answered("books PROGRAM N [SEED]", |asked| {
-        refuses_no_kinds(&asked.program, asked.seed)?;
-        let tally = compare(&asked.program, asked.count, asked.seed)?;
+    let mut arguments = std::env::args_os().skip(1).peekable();
+    let texts = arguments.next_if(|first| first == "--texts").is_some();
+    answered("books [--texts] PROGRAM N [SEED]", arguments, |asked| {
+        refuses_no_records(&asked.program, asked.seed, texts)?;
+        let tally = compare(asked, texts)?;
         eprintln!("{}", tally.by_kind());
         let count = asked.count;
         let answers = tally.answers();
@@ -44,38 +54,8 @@ fn main() -> ExitCode {
     })
 }
 
-/// A kind that is none must get a message and no answer, nor may the good
-/// record after it.
-fn refuses_no_kinds(program: &OsStr, seed: u64) -> Result<(), String> {
-    let good = Case::of(seed, 0);
-    for kind in NO_KINDS {
-        let mut bad = Case::of(seed, 0);
-        bad.call[0] = kind;
-        let records = [bad.record(), good.record()].concat();
-        let given = run(program, &records)
-            .map_err(|error| format!("{}: {error}", program.to_string_lossy()))?;
-        if !given.stdout.is_empty() || given.stderr.is_empty() {
-            return Err(format!("kind {kind} is none, and was not refused"));
-        }
-    }
-    Ok(())
-}
-
-fn run(program: &OsStr, input: &[u8]) -> io::Result<Output> {
-    let mut child = Command::new(program)
-        .stdin(Stdio::piped())
-        .stdout(Stdio::piped())
-        .stderr(Stdio::piped())
-        .spawn()?;
-    let stdin = child.stdin.take();
-    thread::scope(|scope| {
-        // A program that stops reading shows in its output.
-        scope.spawn(|| stdin.map(|mut stdin| stdin.write_all(input)));
-        child.wait_with_output()
-    })
-}
-
-fn compare(program: &OsStr, count: u64, seed: u64) -> Result<Tally, String> {
+fn compare(asked: &Asked, texts: bool) -> Result<Tally, String> {
+    let (program, count, seed) = (&asked.program, asked.count, asked.seed);
     let named = |what: &dyn std::fmt::Display| format!("{}: {what}", program.to_string_lossy());
     let mut child = Command::new(program)
         .stdin(Stdio::piped())
@@ -86,9 +66,10 @@ fn compare(program: &OsStr, count: u64, seed: u64) -> Result<Tally, String> {
     let stdout = child.stdout.take().ok_or_else(|| named(&"no output"))?;
     let mut answers = BufReader::with_capacity(1 << 18, stdout);
     let tally = thread::scope(|scope| {
-        let (sender, cases) = sync_channel(AHEAD);
-        scope.spawn(move || hand_over(stdin, sender, count, seed));
-        let tally = held(&mut answers, cases, count, seed);
+        let (sender, askings) = sync_channel(AHEAD);
+        let next = move |number| Asking::of(seed, number, texts);
+        scope.spawn(move || hand_over(stdin, sender, count, next));
+        let tally = held(&mut answers, askings, count, seed);
         if tally.is_err() {
             // Else the other thread waits for a program that waits for us.
             let _ = child.kill();
@@ -110,20 +91,19 @@ fn compare(program: &OsStr, count: u64, seed: u64) -> Result<Tally, String> {
     Ok(tally)
 }
 
-/// Holds the answers against the cases, until they end or one differs.
+/// Holds the answers against ours, until they end or one differs.
 fn held(
     answers: &mut impl Read,
-    cases: Receiver<Case>,
+    askings: Receiver<Asking>,
     count: u64,
     seed: u64,
 ) -> Result<Tally, String> {
     let begun = Instant::now();
     let mut tally = Tally::default();
-    for case in cases {
-        let answer = case
-            .hold(answers)
-            .map_err(|why| format!("seed {seed}, {}: {why}", case.told()))?;
-        tally.count(&case, &answer);
+    for asking in askings {
+        asking
+            .hold(answers, &mut tally)
+            .map_err(|why| format!("seed {seed}, {why}"))?;
         if tally.books % PROGRESS_EVERY == 0 {
             let seconds = begun.elapsed().as_secs_f64();
             eprintln!(
@@ -135,20 +115,27 @@ fn held(
     Ok(tally)
 }
 
-/// Writes every record, and at last one that is cut short. A case is sent on
-/// once the program has its record.
-fn hand_over(stdin: Option<ChildStdin>, sender: SyncSender<Case>, count: u64, seed: u64) {
+/// Writes every record, and at last one that is cut short. What is asked is
+/// sent on once the program has its record.
+fn hand_over(
+    stdin: Option<ChildStdin>,
+    sender: SyncSender<Asking>,
+    count: u64,
+    next: impl Fn(u64) -> Asking,
+) {
     let Some(mut stdin) = stdin.map(|stdin| BufWriter::with_capacity(1 << 16, stdin)) else {
         return;
     };
     for number in 0..count {
-        let case = Case::of(seed, number);
-        let handed = stdin.write_all(&case.record()).and_then(|()| stdin.flush());
-        if handed.is_err() || sender.send(case).is_err() {
+        let asking = next(number);
+        let handed = stdin
+            .write_all(&asking.record())
+            .and_then(|()| stdin.flush());
+        if handed.is_err() || sender.send(asking).is_err() {
             return;
         }
     }
-    let last = Case::of(seed, count).record();
-    let cut = Rng::new(seed).index(last.len());
+    let last = next(count).record();
+    let cut = Rng::new(count).index(last.len());
     let _ = stdin.write_all(&last[..cut]).and_then(|()| stdin.flush());
 }

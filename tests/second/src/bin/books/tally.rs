@@ -2,6 +2,7 @@
 
 use crate::calls::{call_of, kind_of, KINDS};
 use crate::case::Case;
+use crate::texts::{Outcome, TextCase};
 use second::book::{cell, MAKERS};
 use second::postings::{Answer, Call, Filing, Refusal, Results};
 use second::standards::Table;
@@ -20,6 +21,7 @@ pub struct Tally {
     to_other_sign: u64,
     refused: [u64; 21],
     tables: Tables,
+    texts: Texts,
 }
 
 /// How calls fared that were handed a table of their own.
@@ -69,7 +71,68 @@ impl fmt::Display for Tables {
     }
 }
 
+/// How books were written and texts read.
+#[derive(Default)]
+struct Texts {
+    /// Into buffers exactly as long.
+    exact: u64,
+    written: u64,
+    /// Refused by 2 and by 21.
+    unwritten: [u64; 2],
+    read: u64,
+    /// In place of a book that is not sound.
+    read_over: u64,
+    /// Refused by 22 and by 2.
+    unread: [u64; 2],
+}
+
+impl Texts {
+    fn count(&mut self, case: &TextCase, outcome: &Outcome) {
+        match outcome.written {
+            Ok(length) => {
+                self.written += 1;
+                self.exact += u64::from(length == case.bytes.len());
+            }
+            Err(Refusal::UnsoundBook) => self.unwritten[0] += 1,
+            Err(_) => self.unwritten[1] += 1,
+        }
+        match outcome.read {
+            Ok(()) => {
+                self.read += 1;
+                self.read_over += u64::from(!case.book.is_sound());
+            }
+            Err(Refusal::UnsoundBook) => self.unread[1] += 1,
+            Err(_) => self.unread[0] += 1,
+        }
+    }
+}
+
+impl fmt::Display for Texts {
+    fn fmt(&self, f: &mut fmt::Formatter<'_>) -> fmt::Result {
+        let Texts {
+            exact,
+            written,
+            unwritten,
+            read,
+            read_over,
+            unread,
+        } = self;
+        write!(
+            f,
+            "written {written} ({exact} with no byte more), refused by 2: {}, 21: {}; \
+             read {read} ({read_over} over an unsound book), refused by 22: {}, 2: {}",
+            unwritten[0], unwritten[1], unread[0], unread[1]
+        )
+    }
+}
+
 impl Tally {
+    pub fn count_text(&mut self, case: &TextCase, outcome: &Outcome) {
+        self.books += 1;
+        self.sound += u64::from(case.book.is_sound());
+        self.texts.count(case, outcome);
+    }
+
     pub fn count(&mut self, case: &Case, answer: &Answer) {
         self.books += 1;
         self.sound += u64::from(case.book.is_sound());
@@ -121,13 +184,14 @@ impl Tally {
             to_nothing,
             to_other_sign,
             tables,
+            texts,
             ..
         } = self;
         format!(
             "{sound} of {books} books sound; accepted: \
              file {file} (by edition {ordinary}, {earlier}, {later}), \
              amend {amend} (by edition {}, {}, {}; part to 0 {to_nothing}, to the other sign {to_other_sign}), \
-             close {close}, trade {trade}, apply {apply}, retire {retire}; {tables}",
+             close {close}, trade {trade}, apply {apply}, retire {retire}; {tables}; texts: {texts}",
             amended[0], amended[1], amended[2]
         )
     }

@@ -1,24 +1,39 @@
 //! Runs of the program in a room.
 
-use second::room::{Room, STD};
-use std::ffi::OsStr;
-use std::fs::{self, File};
+use crate::difference::first_difference;
+use second::room::Room;
+use std::fs::File;
 use std::io::{self, Read, Seek, Write};
-use std::process::{ChildStdin, ExitStatus, Stdio};
+use std::process::{ChildStdin, Command, ExitStatus, Stdio};
 use std::thread;
 
 /// What a run gave.
 pub struct Given {
-    pub output: Vec<u8>,
-    pub status: ExitStatus,
+    output: Vec<u8>,
+    status: ExitStatus,
     /// The bytes read of an input that was not to be read.
-    pub read: u64,
+    read: u64,
 }
 
-/// The program's output, with the input handed over in pieces.
-pub fn run(room: &Room, program: &OsStr, input: &[u8], piece: usize) -> io::Result<Given> {
-    let mut child = room
-        .command(program)?
+impl Given {
+    /// Whether it is what this library gives to these lines.
+    pub fn hold(&self, lines: &[Vec<u8>], expected: &[u8]) -> Result<(), String> {
+        if self.output != expected {
+            return Err(first_difference(lines, &self.output, expected));
+        }
+        if self.read > 0 {
+            return Err(format!("the program read {} bytes of its input", self.read));
+        }
+        if !self.status.success() {
+            return Err(format!("the program ended with {}", self.status));
+        }
+        Ok(())
+    }
+}
+
+/// With the input handed over in pieces.
+pub fn run(program: &mut Command, input: &[u8], piece: usize) -> io::Result<Given> {
+    let mut child = program
         .stdin(Stdio::piped())
         .stdout(Stdio::piped())
         .spawn()?;
@@ -45,38 +60,18 @@ fn hand_over(stdin: Option<ChildStdin>, input: &[u8], piece: usize) {
     }
 }
 
-/// The program's output, where it must not read its input. The place to read
-/// at, which we share with it, tells whether it did.
-pub fn run_unread(room: &Room, program: &OsStr, input: &[u8]) -> io::Result<Given> {
+/// Where the input must not be read. The place to read at, which we share with
+/// the program, tells whether it did.
+pub fn run_unread(room: &Room, program: &mut Command, input: &[u8]) -> io::Result<Given> {
     let mut file = File::open(room.write("input", input)?)?;
-    let output = room
-        .command(program)?
+    let output = program
         .stdin(file.try_clone()?)
         .stderr(Stdio::inherit())
         .output()?;
+    room.remove("input")?;
     Ok(Given {
         output: output.stdout,
         status: output.status,
         read: file.stream_position()?,
     })
-}
-
-/// Standards that are there and cannot be read, as a directory cannot, get a
-/// message and no answer.
-pub fn refuses_unreadable(room: &Room, program: &OsStr) -> Result<(), String> {
-    let std = room.path().join(STD);
-    let given = || {
-        fs::create_dir(&std)?;
-        let input = File::open(room.write("input", b"(close (year 2014))\n")?)?;
-        let given = room.command(program)?.stdin(input).output()?;
-        fs::remove_dir(&std)?;
-        Ok(given)
-    };
-    let given =
-        given().map_err(|error: io::Error| format!("{}: {error}", program.to_string_lossy()))?;
-    if given.stdout.is_empty() && !given.stderr.is_empty() {
-        Ok(())
-    } else {
-        Err(format!("a {STD} that cannot be read was not told"))
-    }
 }

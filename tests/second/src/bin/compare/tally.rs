@@ -9,6 +9,17 @@ pub struct Tally {
     pub lines: usize,
     sessions: Counts,
     texts: Counts,
+    /// Sessions that were also cut in two.
+    halves: u64,
+    books: Books,
+}
+
+/// Texts of books: accepted, and refused by 2 and by 22.
+#[derive(Default)]
+struct Books {
+    accepted: u64,
+    unsound: u64,
+    none: u64,
 }
 
 #[derive(Default)]
@@ -30,6 +41,24 @@ impl Tally {
     pub fn count_text(&mut self, held: Held) {
         self.texts.count(&held);
     }
+
+    pub fn count_halves(&mut self, cut: bool) {
+        self.halves += u64::from(cut);
+    }
+
+    pub fn count_book(&mut self, verdict: Result<(), Refusal>) {
+        let Books {
+            accepted,
+            unsound,
+            none,
+        } = &mut self.books;
+        let place = match verdict {
+            Ok(()) => accepted,
+            Err(Refusal::UnsoundBook) => unsound,
+            Err(_) => none,
+        };
+        *place += 1;
+    }
 }
 
 impl Counts {
@@ -47,10 +76,27 @@ impl Counts {
 impl fmt::Display for Tally {
     fn fmt(&self, f: &mut fmt::Formatter<'_>) -> fmt::Result {
         let Tally {
-            sessions, texts, ..
+            sessions,
+            texts,
+            halves,
+            books,
+            ..
         } = self;
         write!(f, "{} without std.txt, {sessions}; ", sessions.without)?;
-        write!(f, "texts beside them: {texts}")
+        write!(f, "texts beside them: {texts}; ")?;
+        write!(f, "{halves} cut in two; texts of books: {books}")
+    }
+}
+
+impl fmt::Display for Books {
+    fn fmt(&self, f: &mut fmt::Formatter<'_>) -> fmt::Result {
+        let Books {
+            accepted,
+            unsound,
+            none,
+        } = self;
+        write!(f, "{accepted} accepted, ")?;
+        write!(f, "refused by number: 2: {unsound}, 22: {none}")
     }
 }
 

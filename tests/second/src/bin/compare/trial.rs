@@ -1,29 +1,27 @@
 //! One session with its standards, put to the program and to this library.
 
-use crate::difference::first_difference;
 use crate::runs::{run, run_unread};
+use crate::standards::{refused, Standards};
+use second::book::Book;
 use second::generate::rng::Rng;
 use second::generate::std_texts::std_text;
 use second::generate::{session_under, Kind};
 use second::postings::Refusal;
 use second::room::Room;
-use second::session::Session;
+use second::session::answers;
 use second::standards::Table;
-use second::std_text::read_table;
-use second::text::{Answered, Lines};
+use second::text::Lines;
 use std::convert::Infallible;
 use std::ffi::OsStr;
 
 /// One session, the same again for the same kind, seed and length.
 pub struct Trial {
-    kind: Kind,
-    seed: u64,
+    pub kind: Kind,
+    pub seed: u64,
     lines: usize,
     /// Bytes handed to the program at a time.
-    piece: usize,
-    /// The text of standards beside it, if there is one, and what that gives.
-    std: Option<Vec<u8>>,
-    table: Result<Table, Refusal>,
+    pub piece: usize,
+    pub standards: Standards,
 }
 
 /// A trial without a difference.
@@ -58,106 +56,88 @@ impl Trial {
             _ => 1 << 20,
         };
         let std = Rng::new(!seed).once_in(2).then(|| std_text(seed));
-        Trial::with(std, kind, seed, lines, piece)
-    }
-
-    /// A session that shows every standard, beside a text of them.
-    pub fn of_text(seed: u64) -> Self {
-        let kind = Kind::Standards;
-        let std = Some(std_text(seed));
-        Trial::with(std, kind, seed, kind.usual_lines(), 1 << 20)
-    }
-
-    fn with(std: Option<Vec<u8>>, kind: Kind, seed: u64, lines: usize, piece: usize) -> Self {
-        let table = match &std {
-            Some(text) => read_table(text.as_slice()).expect("bytes can be read"),
-            None => Ok(Table::built_in()),
-        };
         Trial {
             kind,
             seed,
             lines,
             piece,
-            std,
-            table,
+            standards: Standards::of(std),
         }
+    }
+
+    /// A session that shows every standard, beside a text of them.
+    pub fn of_text(seed: u64) -> Self {
+        let kind = Kind::Standards;
+        Trial {
+            kind,
+            seed,
+            lines: kind.usual_lines(),
+            piece: 1 << 20,
+            standards: Standards::of(Some(std_text(seed))),
+        }
+    }
+
+    pub fn input(&self) -> Vec<u8> {
+        session_under(&self.standards.aim(), self.kind, self.seed, self.lines)
     }
 
     /// What was held, or the first difference in words.
     pub fn hold(&self, room: &Room, program: &OsStr) -> Result<Held, String> {
-        let failed = |error| self.told(&format!("{}: {error}", program.to_string_lossy()));
-        room.lay_out(self.std.as_deref()).map_err(failed)?;
-        let (input, expected) = self.texts().map_err(|why| self.told(&why))?;
-        let given = match &self.table {
-            Ok(_) => run(room, program, &input, self.piece),
-            Err(_) => run_unread(room, program, &input),
+        self.held(room, program).map_err(|why| self.told(&why))
+    }
+
+    /// With standards at fault nothing but their number is given, and no line
+    /// answered.
+    fn held(&self, room: &Room, program: &OsStr) -> Result<Held, String> {
+        let failed = |error| format!("{}: {error}", program.to_string_lossy());
+        self.standards.lay_out(room).map_err(failed)?;
+        let input = self.input();
+        let mut command = room.command(program).map_err(failed)?;
+        let (given, expected, lines) = match &self.standards.table {
+            Ok(table) => {
+                let (expected, _) = ours(Book::fresh(), table, &input, self.piece)?;
+                (run(&mut command, &input, self.piece), expected, cut(&input))
+            }
+            Err(refusal) => {
+                let given = run_unread(room, &mut command, &input);
+                (given, refused(*refusal), Vec::new())
+            }
         };
-        let given = given.map_err(failed)?;
-        let lines = match &self.table {
-            Ok(_) => cut(&input),
-            Err(_) => Vec::new(),
-        };
-        if given.output != expected {
-            return Err(self.told(&first_difference(&lines, &given.output, &expected)));
-        }
-        if given.read > 0 {
-            return Err(self.told(&format!(
-                "the program read {} bytes of its input",
-                given.read
-            )));
-        }
-        if !given.status.success() {
-            return Err(self.told(&format!("the program ended with {}", given.status)));
-        }
+        given.map_err(failed)?.hold(&lines, &expected)?;
         Ok(Held {
             lines: lines.len(),
-            std: self
-                .std
-                .as_ref()
-                .map(|_| self.table.as_ref().map(drop).map_err(|&no| no)),
+            std: self.standards.verdict(),
         })
     }
 
-    /// The input, and the output of this library, with its accounts kept and
-    /// held; with standards at fault nothing but their number.
-    fn texts(&self) -> Result<(Vec<u8>, Vec<u8>), String> {
-        let aimed_at = self.table.clone().unwrap_or_else(|_| Table::built_in());
-        let input = session_under(&aimed_at, self.kind, self.seed, self.lines);
-        let expected = match &self.table {
-            Ok(table) => self.answers(table, &input)?,
-            Err(refusal) => format!("{}\n", Answered(Err(*refusal))).into(),
-        };
-        Ok((input, expected))
-    }
-
-    fn answers(&self, table: &Table, input: &[u8]) -> Result<Vec<u8>, String> {
-        let mut session = Session::new(Vec::new(), table.clone(), true);
-        let run = || {
-            for piece in input.chunks(self.piece) {
-                session.feed(piece)?;
-            }
-            session.finish()
-        };
-        run().map_err(|halt| format!("the second implementation itself: {halt}"))
-    }
-
     /// With the commands that write the texts again.
-    fn told(&self, what: &str) -> String {
+    pub fn told(&self, what: &str) -> String {
         let Trial {
             kind, seed, lines, ..
         } = self;
-        let texts = match self.std {
-            None => format!("sessions {kind} {seed} {lines}"),
-            Some(_) => {
-                format!("sessions std {seed} > std.txt; sessions {kind} {seed} {lines} std.txt")
-            }
+        let texts = if self.standards.are_own() {
+            format!("sessions std {seed} > std.txt; sessions {kind} {seed} {lines} std.txt")
+        } else {
+            format!("sessions {kind} {seed} {lines}")
         };
         format!("kind {kind}, seed {seed} ({texts}): {what}")
     }
 }
 
+/// The output of this library, with its accounts kept and held, and the book
+/// at the end.
+pub fn ours(
+    book: Book,
+    table: &Table,
+    input: &[u8],
+    piece: usize,
+) -> Result<(Vec<u8>, Book), String> {
+    answers(book, table, input, piece)
+        .map_err(|halt| format!("the second implementation itself: {halt}"))
+}
+
 /// The input's lines as a session sees them.
-fn cut(input: &[u8]) -> Vec<Vec<u8>> {
+pub fn cut(input: &[u8]) -> Vec<Vec<u8>> {
     let mut lines = Vec::new();
     let mut cutter = Lines::default();
     let cut: Result<(), Infallible> = cutter.feed(input, |line| {

@@ -1,5 +1,6 @@
-// Records of a text: as many bytes follow as the first argument says. They are read as a text with the record's book lent,
-// and then that book, as it came, is written into them.
+// Records of a text: as many bytes follow as the first argument says. They are read as the text of a book that is to stand
+// in the place of the record's, by value, as `read_in` does with a lent one; and then the record's book, as it came, is
+// written into them.
 ghost use mathlib.Core.Path.{_≡_};
 ghost use lib.ListN.{length};
 ghost use Rattle.book_probe.specs.Sizes.{answerBytes, recordBytes, textBytes};
@@ -12,20 +13,17 @@ use libc::STDERR_FILENO;
 use libc::STDIN_FILENO;
 use libc::STDOUT_FILENO;
 use text::loading::Loading;
+use text::reading::TEXT_ROOM;
 use text::reading::read_book;
-use text::writing::BOOK_ROOM;
 use text::writing::Wrote;
 use text::writing::write_book;
-
-// The most bytes: one more than any book's text has.
-pub(crate) const MOST: usize = BOOK_ROOM + 1;
 
 // Reads the bytes of a record, and writes its answer and the bytes after it; false as `turn` says.
 pub(crate) fn text_turn(input: &[u8], count: u64, bytes: &mut [u8], out: &mut [u8]) -> bool
     requires { ⌜ (recordBytes ≡ length (now input))
         × ((textBytes ≡ length (now bytes)) × (answerBytes ≡ length (now out))) ⌝ }
 {
-    if count > MOST as u64 {
+    if count > TEXT_ROOM as u64 {
         io::write_all(STDERR_FILENO, b"book_probe: too many bytes\n");
         return false;
     }

@@ -1,11 +1,11 @@
 -- Laws of the writing out of a book.
-use Prim.Native.Nat.{ℕ, _+_, _≤_}
+use Prim.Native.Nat.{ℕ, _≤_}
 use native.Mathlib.Omega.{arith}
 use mathlib.Core.Bool.{Bool, true, false}
 use mathlib.Core.Path.{_≡_, refl, sym, ap, _∙_}
-use mathlib.Core.List.{List, [], _∷_}
+use mathlib.Core.List.{List}
 use lib.ListN.{length, take}
-use borrow.Author.Tests.{leb-true, le-ltb}
+use borrow.Author.Tests.{le-ltb}
 use Rattle.book.specs.Soundness.{sound}
 use Rattle.book.specs.Refusals.{firstRefusal}
 use Rattle.book.specs.Rules.{headRows}
@@ -21,18 +21,6 @@ use Rattle.text.proofs.BookRoomLaws.{room}
 use Rattle.text.proofs.WritingLaws.{written-front}
 use Rattle.credit_book.specs.declared.Wrote.{Wrote}
 use Rattle.credit_book.specs.Saving.{savedText, SavesBook}
-use Rattle.text.specs.declared.placing.Placed.{Placed}
-use Rattle.text.specs.Placing.{Puts, roomFor}
-use Rattle.text.proofs.StoreLaws.{put-stands, same-long}
-
--- a text that fitted ends within the buffer
-pub fits-in :
-    {text out out′ : List ℕ} {at : ℕ} {r : Placed} → Puts (roomFor (length text) at out) text at out r out′ → r .fits ≡ true
-    → r .at ≤ length out′
-fits-in {text} {out} {out′} {at} p f =
-    let e = sym (p .fits-is) ∙ f in
-    let s = put-stands e p in
-    omega (arith, s .end-is, same-long s, leb-true (at + length text) (length out) e)
 
 -- ---- what writing answers
 its-length : {n m : ℕ} → text.Wrote.Length n ≡ text.Wrote.Length m → n ≡ m

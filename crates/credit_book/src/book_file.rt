@@ -1,6 +1,8 @@
 // Card 8: the book that the program begins with: that of the file named after `--read`, or a fresh one where none is named.
 // Of a file of any size its first bytes decide, and no more of them are read.
 // The contracts speak of values, since none can say what a call of the system read (specs/BookFile.antt).
+ghost use mathlib.Core.Path.{_≡_};
+ghost use Rattle.book.specs.Postings.{freshBook};
 ghost use Rattle.credit_book.specs.BookFile.{FirstBookBy, FromBookFile};
 use crate::arguments::open_named;
 use crate::files::end_reading;
@@ -9,11 +11,8 @@ use book::answers::Refusal;
 use book::ledger::Book;
 use book::ledger::fresh;
 use text::loading::Loading;
+use text::reading::TEXT_ROOM;
 use text::reading::read_book;
-use text::writing::BOOK_ROOM;
-
-// One byte more than any book's text has.
-const TEXT_ROOM: usize = BOOK_ROOM + 1;
 
 // What became of the file.
 pub enum BookFile {
@@ -32,6 +31,14 @@ pub struct FirstBook {
     pub book: Book,
 }
 
+// No book was read.
+fn no_book(file: BookFile) -> FirstBook
+    ensures { λ r. ⌜ (r .file ≡ file) × (r .book ≡ freshBook) ⌝ }
+{
+    let book = fresh();
+    FirstBook { file, book }
+}
+
 // The book of a file that was opened.
 fn load_book(fd: i32) -> FirstBook
     ensures { λ r. ⌜ FromBookFile (r .file) (r .book) ⌝ }
@@ -39,11 +46,7 @@ fn load_book(fd: i32) -> FirstBook
     let mut text = [0u8; TEXT_ROOM];
     let read = read_text(fd, &mut text);
     if !end_reading(fd, read, b"credit-book: --read") {
-        let book = fresh();
-        return FirstBook {
-            file: BookFile::Unreadable,
-            book,
-        };
+        return no_book(BookFile::Unreadable);
     }
     let n = read.len;
     let got = read_book(fresh(), &text[..n]);
@@ -66,20 +69,12 @@ pub fn first_book(name: usize) -> FirstBook
     ensures { λ r. ⌜ FirstBookBy name r ⌝ }
 {
     if name == 0 {
-        let book = fresh();
-        return FirstBook {
-            file: BookFile::Unnamed,
-            book,
-        };
+        return no_book(BookFile::Unnamed);
     }
     let fd = open_named(name);
     if fd < 0 {
         os::fail(b"credit-book: --read");
-        let book = fresh();
-        return FirstBook {
-            file: BookFile::Unreadable,
-            book,
-        };
+        return no_book(BookFile::Unreadable);
     }
     load_book(fd)
 }

@@ -6,9 +6,9 @@ use book::ledger::fresh;
 use figuring::tables::Table;
 use text::loading::Loading;
 use text::placing::put_bytes;
+use text::reading::TEXT_ROOM;
 use text::reading::read_book;
 use text::tables::TABLE_ROOM;
-use text::writing::BOOK_ROOM;
 
 // Whether there is a NAME.book, what reading it gave, and the book to begin with: that one, or else a fresh one.
 pub struct FirstBook {
@@ -56,7 +56,7 @@ pub(crate) fn first_book(name: [u8; 4096], n: usize) -> FirstBook {
             book,
         };
     }
-    let mut text = [0u8; BOOK_ROOM + 1];
+    let mut text = [0u8; TEXT_ROOM];
     let got = io::read_full(fd, &mut text);
     libc::close(fd);
     let read = read_book(fresh(), &text[..got]);

@@ -26,7 +26,7 @@ pub enum NextEntry {
 }
 
 // The entry of the line that begins at a place, for any bytes and any place; none of a line that lacks its line feed.
-pub fn entry_at(text: &[u8], at: usize) -> NextEntry
+pub(crate) fn entry_at(text: &[u8], at: usize) -> NextEntry
     ensures { λ r. ⌜ r ≡ nextEntry (now (text .entry)) at ⌝ }
 {
     if text.len() < at {

@@ -3,8 +3,8 @@
 pub mod answering;
 pub mod claims;
 pub mod desk;
-pub mod entries;
-pub mod entry_lines;
+mod entries;
+mod entry_lines;
 mod first_line;
 pub mod lines;
 pub mod listing;

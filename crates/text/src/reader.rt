@@ -36,14 +36,14 @@ pub fn read_line(line: &[u8]) -> Line
 }
 
 // The entry of the line that begins at the reader's place.
-pub fn entry<'a>(r: Reader<'a>) -> NextEntry
+pub(crate) fn entry<'a>(r: Reader<'a>) -> NextEntry
     ensures { λ n. ⌜ n ≡ nextEntry (now (r .entry .line)) (r .entry .at) ⌝ }
 {
     entry_at(r.line, r.at)
 }
 
 // The entry of the line that begins at a place of a text, and where the next one begins.
-pub fn next_entry(text: &[u8], at: usize) -> NextEntry
+pub(crate) fn next_entry(text: &[u8], at: usize) -> NextEntry
     ensures { λ r. ⌜ r ≡ nextEntry (now (text .entry)) at ⌝ }
 {
     entry(Reader { line: text, at })

@@ -17,10 +17,14 @@ use crate::first_line::line_end;
 use crate::loading::Loading;
 use crate::patterns::fitted;
 use crate::reader::next_entry;
+use crate::writing::BOOK_ROOM;
 use book::answers::Refusal;
 use book::ledger::Book;
 use book::ledger::fresh;
 use book::soundness::is_sound;
+
+// So many bytes of a text decide, whatever its length: `first-bytes` of Room. A reader needs no more of them.
+pub const TEXT_ROOM: usize = BOOK_ROOM + 1;
 
 // What reading answers, and the book after it.
 pub struct ReadIn {

@@ -12,12 +12,8 @@ pub struct Asked {
 
 /// Runs such a command and prints what `hold` says: that nothing differs, or
 /// the first difference.
-pub fn answered(
-    usage: &str,
-    arguments: impl Iterator<Item = OsString>,
-    hold: impl FnOnce(&Asked) -> Result<String, String>,
-) -> ExitCode {
-    let Some(asked) = asked(arguments) else {
+pub fn answered(usage: &str, hold: impl FnOnce(&Asked) -> Result<String, String>) -> ExitCode {
+    let Some(asked) = by_arguments() else {
         eprintln!("usage: {usage}");
         return ExitCode::from(2);
     };
@@ -30,7 +26,8 @@ pub fn answered(
 }
 
 /// Nothing where the arguments are not these; without a seed it is 1.
-fn asked(mut arguments: impl Iterator<Item = OsString>) -> Option<Asked> {
+fn by_arguments() -> Option<Asked> {
+    let mut arguments = std::env::args_os().skip(1);
     let program = arguments.next()?;
     let count = number(arguments.next()?)?;
     let seed = arguments.next().map_or(Some(1), number)?;

@@ -9,6 +9,7 @@ use Rattle.text.specs.Loads.{Read}
 use Rattle.text.specs.BookReading.{readBook}
 use Rattle.text.proofs.BookRoomLaws.{room}
 use Rattle.credit_book.specs.BookFile.{BookComesTo}
+use Rattle.credit_book.proofs.BookFileLaws.{unreadable}
 use Rattle.credit_book.proofs.FileLaws.{in-buffer, comes-to, was-loaded, was-refused}
 use Rattle.credit_book.proofs.book_file.load_book.Statement.{statement}
 use Rattle.credit_book.proofs.book_file.load_book.Tie as tie
@@ -25,14 +26,14 @@ slice-aggregate-end-reading c = search needs
 end-reading-requires : tie.Need-end-reading-requires
 end-reading-requires c κs = search needs
 
-fresh-requires : tie.Need-fresh-requires
-fresh-requires c κs = search needs
+no-book-requires : tie.Need-no-book-requires
+no-book-requires c κs = search needs
 
 returns : tie.Need-returns
-returns c = search needs
+returns c = unreadable (c .no-book .result) (c .no-book .ensures .0)
 
-fresh-requires-2 : tie.Need-fresh-requires-2
-fresh-requires-2 c κs = search needs
+fresh-requires : tie.Need-fresh-requires
+fresh-requires c κs = search needs
 
 array-share-prefix-text : tie.Need-array-share-prefix-text
 array-share-prefix-text c = in-buffer (c .before .before .before .before .before .read-text .ensures)
@@ -79,9 +80,9 @@ load-book-spec =
     read-text-requires
     slice-aggregate-end-reading
     end-reading-requires
-    fresh-requires
+    no-book-requires
     returns
-    fresh-requires-2
+    fresh-requires
     array-share-prefix-text
     slice-aggregate-read-book
     read-book-requires

@@ -2,7 +2,7 @@ use mathlib.Core.Path.{sym}
 use lib.Seq.{length-take-le}
 use borrow.Author.Needs.{needs}
 use borrow.Author.Tests.{not-false}
-use Rattle.credit_book.proofs.SavingLaws.{fits-in}
+use Rattle.text.proofs.StoreLaws.{fits-in}
 use Rattle.credit_book.proofs.saving.save_named.Statement.{statement}
 use Rattle.credit_book.proofs.saving.save_named.Tie as tie
 

@@ -18,10 +18,10 @@ enum Asked {
 }
 
 impl Asking {
-    /// Where the program knows texts, one in three has one.
-    pub fn of(seed: u64, number: u64, texts: bool) -> Self {
+    /// One in three has a text.
+    pub fn of(seed: u64, number: u64) -> Self {
         let rng = &mut Rng::new(Rng::new(seed).draw() ^ number);
-        let asked = if texts && number % 3 == 2 {
+        let asked = if number % 3 == 2 {
             Asked::Text(Box::new(TextCase::drawn(rng)))
         } else {
             Asked::Call(Box::new(Case::drawn(rng)))

@@ -10,12 +10,12 @@
 //! are 0 file, 1 close, 2 trade, 3 apply, 4 retire, 5 amend. One that is none
 //! ends PROGRAM with a message, and is tried first.
 //!
-//! With `--texts` one record in three is of kind 6, followed by as many bytes as
-//! its first argument says, at most 229,441. These are read as a text with the
-//! book lent, and the book is written into them as a lent buffer. The answer is
-//! the book's soundness, the refusal when written or 0, the length or 0, the
-//! refusal when read or 0, the book after the reading, and then the bytes after
-//! the writing. More bytes than that end PROGRAM with a message.
+//! One record in three is of kind 6, followed by as many bytes as its first
+//! argument says, at most 229,441. These are read as a text with the book lent,
+//! and the book is written into them as a lent buffer. The answer is the book's
+//! soundness, the refusal when written or 0, the length or 0, the refusal when
+//! read or 0, the book after the reading, and then the bytes after the writing.
+//! More bytes than that end PROGRAM with a message, and are tried first too.
 
 mod aimed;
 mod asking;
@@ -42,11 +42,9 @@ const PROGRESS_EVERY: u64 = 2_000;
 const AHEAD: usize = 16;
 
 fn main() -> ExitCode {
-    let mut arguments = std::env::args_os().skip(1).peekable();
-    let texts = arguments.next_if(|first| first == "--texts").is_some();
-    answered("books [--texts] PROGRAM N [SEED]", arguments, |asked| {
-        refuses_no_records(&asked.program, asked.seed, texts)?;
-        let tally = compare(asked, texts)?;
+    answered("books PROGRAM N [SEED]", |asked| {
+        refuses_no_records(&asked.program, asked.seed)?;
+        let tally = compare(asked)?;
         eprintln!("{}", tally.by_kind());
         let count = asked.count;
         let answers = tally.answers();
@@ -54,7 +52,7 @@ fn main() -> ExitCode {
     })
 }
 
-fn compare(asked: &Asked, texts: bool) -> Result<Tally, String> {
+fn compare(asked: &Asked) -> Result<Tally, String> {
     let (program, count, seed) = (&asked.program, asked.count, asked.seed);
     let named = |what: &dyn std::fmt::Display| format!("{}: {what}", program.to_string_lossy());
     let mut child = Command::new(program)
@@ -67,8 +65,7 @@ fn compare(asked: &Asked, texts: bool) -> Result<Tally, String> {
     let mut answers = BufReader::with_capacity(1 << 18, stdout);
     let tally = thread::scope(|scope| {
         let (sender, askings) = sync_channel(AHEAD);
-        let next = move |number| Asking::of(seed, number, texts);
-        scope.spawn(move || hand_over(stdin, sender, count, next));
+        scope.spawn(move || hand_over(stdin, sender, count, seed));
         let tally = held(&mut answers, askings, count, seed);
         if tally.is_err() {
             // Else the other thread waits for a program that waits for us.
@@ -117,17 +114,12 @@ fn held(
 
 /// Writes every record, and at last one that is cut short. What is asked is
 /// sent on once the program has its record.
-fn hand_over(
-    stdin: Option<ChildStdin>,
-    sender: SyncSender<Asking>,
-    count: u64,
-    next: impl Fn(u64) -> Asking,
-) {
+fn hand_over(stdin: Option<ChildStdin>, sender: SyncSender<Asking>, count: u64, seed: u64) {
     let Some(mut stdin) = stdin.map(|stdin| BufWriter::with_capacity(1 << 16, stdin)) else {
         return;
     };
     for number in 0..count {
-        let asking = next(number);
+        let asking = Asking::of(seed, number);
         let handed = stdin
             .write_all(&asking.record())
             .and_then(|()| stdin.flush());
@@ -135,7 +127,7 @@ fn hand_over(
             return;
         }
     }
-    let last = next(count).record();
+    let last = Asking::of(seed, count).record();
     let cut = Rng::new(count).index(last.len());
     let _ = stdin.write_all(&last[..cut]).and_then(|()| stdin.flush());
 }

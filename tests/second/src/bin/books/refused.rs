@@ -16,7 +16,7 @@ const NO_KINDS: [u64; 7] = [7, 11, 1 << 8, (1 << 8) + 5, 1 << 16, 1 << 32, 1 << 
 /// More bytes than a record may have.
 const TOO_MANY: [u64; 4] = [MOST as u64 + 1, (1 << 32) + 1, 1 << 63, u64::MAX];
 
-pub fn refuses_no_records(program: &OsStr, seed: u64, texts: bool) -> Result<(), String> {
+pub fn refuses_no_records(program: &OsStr, seed: u64) -> Result<(), String> {
     let rng = &mut Rng::new(seed);
     let good = Case::drawn(rng).record();
     let hold = |bad: Vec<u8>, what: String| {
@@ -27,13 +27,12 @@ pub fn refuses_no_records(program: &OsStr, seed: u64, texts: bool) -> Result<(),
         }
         Ok(())
     };
-    let unknown = if texts { None } else { Some(TEXT as u64) };
-    for kind in unknown.into_iter().chain(NO_KINDS) {
+    for kind in NO_KINDS {
         let mut bad = Case::drawn(rng);
         bad.call[0] = kind;
         hold(bad.record(), format!("kind {kind} is none"))?;
     }
-    for length in TOO_MANY.into_iter().filter(|_| texts) {
+    for length in TOO_MANY {
         let bad = TextCase::drawn(rng).record_with(length);
         hold(bad, format!("{length} bytes are too many"))?;
     }

@@ -30,8 +30,7 @@ const PROGRESS_EVERY: u64 = 25;
 const TEXTS: u64 = 10;
 
 fn main() -> ExitCode {
-    let arguments = std::env::args_os().skip(1);
-    answered("compare PROGRAM N [FIRST-SEED]", arguments, |asked| {
+    answered("compare PROGRAM N [FIRST-SEED]", |asked| {
         let room = Room::new().map_err(|error| format!("no room to run in: {error}"))?;
         tells_failures(&room, &asked.program)?;
         let tally = compare(&room, &asked.program, asked.count, asked.seed)?;

@@ -26,12 +26,14 @@ use Rattle.book.specs.declared.listing.ShortageEntry.{ShortageEntry}
 use Rattle.book.proofs.TableLaws.{by-verdict}
 use Rattle.book.proofs.SoundnessLaws.{Sound}
 use Rattle.book.proofs.CallLaws.{lawful}
+use Rattle.text.specs.Gather.{gather}
 use Rattle.text.specs.Ascii.{ascii}
 use Rattle.text.specs.Numeral.{numeral}
 use Rattle.text.specs.Pattern.{filled, hash, choose}
 use Rattle.text.specs.Desk.{lineFeed}
-use Rattle.text.specs.Listing.{lotText, shortageText, gather, lotLine, shortageLine, cellText, makerText, listing}
-use Rattle.shown.specs.Statement.{asPosting, yearAfter, yearBy, lotBy, shortageBy, Item, lot, short, above0, collect, lotItem, shortItem, cellItems, items, itemLine, itemLines}
+use Rattle.text.specs.Listing.{lotText, shortageText, lotLine, shortageLine, cellText, makerText, listing}
+use Rattle.text.proofs.GatherLaws.{gather-through}
+use Rattle.shown.specs.Statement.{asPosting, yearAfter, yearBy, lotBy, shortageBy, Item, lot, short, above0, lotItem, shortItem, cellItems, items, itemLine, itemLines}
 
 -- ---- the accounts and the open year see the accepted calls alone
 pub accounts-same :
@@ -131,11 +133,9 @@ item-lines-append o (x ∷ xs) ys = rw (item-lines-append o xs ys) (sym (append-
 -- what is gathered line by line is what is collected, printed
 gather-lines :
     (o n : ℕ) (f : ℕ → List ℕ) (g : ℕ → List Item) → ((i : ℕ) → i < n → f i ≡ itemLines o (g i))
-    → gather n f ≡ itemLines o (collect n g)
-unfolding gather collect itemLines
-gather-lines o zero f g h = refl
-gather-lines o (suc n) f g h =
-    ap₂ _++_ (gather-lines o n f g (λ i l. h i (omega arith))) (h n (omega arith)) ∙ sym (item-lines-append o (collect n g) (g n))
+    → gather n f ≡ itemLines o (gather n g)
+unfolding itemLines
+gather-lines o n f g h = sym (gather-through (itemLines o) refl (item-lines-append o) n g f (λ i l. sym (h i l)))
 
 -- a figure above 0 is of a closed year, if those of the open year and later are 0
 closed-year : (Y y n : ℕ) → (Y ≤ y → n ≡ 0) → 0 < n → y < Y
@@ -169,10 +169,10 @@ module _ (b : Book) (a : Accounts) (w : Sound b) (r : (k : Key) → In k → Rec
     unfolding cellText cellItems
     cell-same =
         ap₂ _++_ (gather-lines _ years _ (lotItem a m s) lot-line) (gather-lines _ years _ (shortItem a m s) shortage-line)
-        ∙ sym (item-lines-append (b .«open_year») (collect years (lotItem a m s)) (collect years (shortItem a m s)))
+        ∙ sym (item-lines-append (b .«open_year») (gather years (lotItem a m s)) (gather years (shortItem a m s)))
 
   pub listing-is : listing b ≡ itemLines (b .«open_year») (items a)
   unfolding listing makerText items
   listing-is =
-      gather-lines _ makers _ (λ m. collect sets (cellItems a m))
+      gather-lines _ makers _ (λ m. gather sets (cellItems a m))
       (λ m hm. gather-lines _ sets _ (cellItems a m) (λ s hs. cell-same m s hm hs))

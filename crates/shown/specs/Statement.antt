@@ -13,6 +13,7 @@ use Rattle.book.specs.Accounts.{bought, sold, applied, retired, covered}
 use Rattle.book.specs.declared.kinds.Call.{Call}
 use Rattle.text.specs.Ascii.{ascii}
 use Rattle.text.specs.Pattern.{filled}
+use Rattle.text.specs.Gather.{gather}
 use Rattle.text.specs.Desk.{lineFeed}
 
 -- a posting, entered as accepted
@@ -52,11 +53,6 @@ abbrev pub above0 : ℕ → Item → List Item
 above0 zero x = []
 above0 (suc n) x = x ∷ []
 
--- f 0, then f 1, up to the one before f n
-unfoldable pub collect : ℕ → (ℕ → List Item) → List Item
-collect zero f = []
-collect (suc n) f = collect n f ++ f n
-
 -- a cell's lots, then its shortages, by year; i counts the years from the first
 abbrev pub lotItem : Accounts → ℕ → ℕ → ℕ → List Item
 lotItem a m s i = let k = key m s (firstYear + i) in above0 (lotBy a k) (lot k (lotBy a k))
@@ -65,11 +61,11 @@ abbrev pub shortItem : Accounts → ℕ → ℕ → ℕ → List Item
 shortItem a m s i = let k = key m s (firstYear + i) in above0 (shortageBy a k) (short k (shortageBy a k))
 
 unfoldable pub cellItems : Accounts → ℕ → ℕ → List Item
-cellItems a m s = collect years (lotItem a m s) ++ collect years (shortItem a m s)
+cellItems a m s = gather years (lotItem a m s) ++ gather years (shortItem a m s)
 
 -- makers rising, then sets
 unfoldable pub items : Accounts → List Item
-items a = collect makers (λ m. collect sets (cellItems a m))
+items a = gather makers (λ m. gather sets (cellItems a m))
 
 -- an item's place in the order: makers rising, then sets; of a cell the lots by year, then the shortages by year
 abbrev pub rank : Item → ℕ

@@ -13,13 +13,14 @@ use Rattle.figuring.proofs.BoolLaws.{both}
 use Rattle.book.specs.Sizes.{places, allParts}
 use Rattle.book.specs.Postings.{stored}
 use Rattle.book.specs.declared.ledger.Book.{Book}
+use Rattle.text.specs.Gather.{gather}
 use Rattle.text.specs.declared.entries.Entry.{Entry}
 use Rattle.text.specs.Pattern.{fit, figures, figuresOf, padded}
 use Rattle.text.specs.Line.{figure}
 use Rattle.text.specs.Desk.{lineFeed}
 use Rattle.text.specs.Lines.{linesOf}
 use Rattle.text.specs.Rendered.{Small}
-use Rattle.text.specs.Entries.{collect, entries, inBook, rank, allEntries, enter, emptyAt}
+use Rattle.text.specs.Entries.{entries, inBook, rank, allEntries, enter, emptyAt}
 use Rattle.text.specs.BookText.{entryFigures, entryLines, openForm, openLine, bookText}
 use Rattle.text.specs.BookReading.{bookDigits, onlyIf, entryOf, onEntry, entered, bookIn, allEnded}
 use Rattle.text.specs.RoundTrip.{Writable}
@@ -97,7 +98,7 @@ unfolding emptyAt
 open-year y es = all-open (emptyAt y) es
 
 entries-of : (y : ℕ) (es : List Entry) → Rising Inside allEntries 0 es → entries (enterAll (emptyAt y) es) ≡ es
-unfolding collect
+unfolding gather
 entries-of y es h =
     entries-are (enterAll (emptyAt y) es)
     ∙ entered-collected stores 0 (emptyAt y) es (empty-neat y) (λ r l. empty-look y r) h

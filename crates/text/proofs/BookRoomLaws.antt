@@ -13,17 +13,19 @@ use Rattle.figuring.specs.Years.{firstYear}
 use Rattle.book.specs.Sizes.{sets, families, years, places, allParts}
 use Rattle.book.specs.declared.ledger.Book.{Book}
 use Rattle.book.specs.declared.answers.Refusal.the-variants.{NotABook}
+use Rattle.text.specs.Gather.{gather}
 use Rattle.text.specs.declared.entries.Entry.{Entry}
 use Rattle.text.specs.Pattern.{filled, hashes}
 use Rattle.text.specs.Desk.{lineFeed}
-use Rattle.text.specs.Listing.{entryRoom, gather}
+use Rattle.text.specs.Listing.{entryRoom}
 use Rattle.text.specs.Loads.{refused}
-use Rattle.text.specs.Entries.{entryIf, filedAt, familyAt, mgAt, collect, entries}
+use Rattle.text.specs.Entries.{entryIf, filedAt, familyAt, mgAt, entries}
 use Rattle.text.specs.BookText.{lot, short, entryLine, entryLines, openForm, openLine, bookText, bookRoom}
 use Rattle.text.specs.Writing.{familyLine, mgLine}
 use Rattle.text.specs.BookReading.{readBook}
 use Rattle.text.specs.RoundTrip.{Room}
 use Rattle.text.proofs.FillLaws.{filled-then, filled-length}
+use Rattle.text.proofs.GatherLaws.{gather-through}
 use Rattle.text.proofs.ListingLaws.{entry-length, gather-length}
 use Rattle.text.proofs.RoundTripLaws.{else-22}
 
@@ -42,12 +44,11 @@ lines-append (x ∷ xs) ys =
     ap (λ (l : List ℕ). entryLine x ++ (lineFeed ∷ l)) (lines-append xs ys)
     ∙ sym (append-assoc (entryLine x) (lineFeed ∷ entryLines xs) (entryLines ys))
 
-lines-collect :
+lines-gather :
     (n : ℕ) (f : ℕ → List Entry) (g : ℕ → List ℕ) → ((i : ℕ) → entryLines (f i) ≡ g i)
-    → entryLines (collect n f) ≡ gather n g
-unfolding collect gather entryLines
-lines-collect zero f g h = refl
-lines-collect (suc n) f g h = lines-append (collect n f) (f n) ∙ ap₂ _++_ (lines-collect n f g h) (h n)
+    → entryLines (gather n f) ≡ gather n g
+unfolding entryLines
+lines-gather n f g h = gather-through entryLines refl lines-append n f g (λ i l. h i)
 
 -- the line of a lot or a shortage, by the pattern of its kind
 mg-line :
@@ -76,15 +77,15 @@ groups b =
 lines-are : (b : Book) → entryLines (entries b) ≡ groups b
 unfolding entries familyLine
 lines-are b =
-    lines-append (collect allParts (familyAt (b .marks) (b .parts)))
-    (collect places (mgAt Entry.Lot (b .lots)) ++ collect places (mgAt Entry.Shortage (b .shortages)))
+    lines-append (gather allParts (familyAt (b .marks) (b .parts)))
+    (gather places (mgAt Entry.Lot (b .lots)) ++ gather places (mgAt Entry.Shortage (b .shortages)))
     ∙ ap₂ _++_
-    (lines-collect allParts (familyAt (b .marks) (b .parts)) (familyLine (b .marks) (b .parts)) (λ i. refl))
-    (lines-append (collect places (mgAt Entry.Lot (b .lots))) (collect places (mgAt Entry.Shortage (b .shortages)))
+    (lines-gather allParts (familyAt (b .marks) (b .parts)) (familyLine (b .marks) (b .parts)) (λ i. refl))
+    (lines-append (gather places (mgAt Entry.Lot (b .lots))) (gather places (mgAt Entry.Shortage (b .shortages)))
     ∙ ap₂ _++_
-    (lines-collect places (mgAt Entry.Lot (b .lots)) (mgLine (ended (lot .pattern)) (b .lots))
+    (lines-gather places (mgAt Entry.Lot (b .lots)) (mgLine (ended (lot .pattern)) (b .lots))
     (mg-line Entry.Lot (lot .pattern) (λ m s y mg. refl) (b .lots)))
-    (lines-collect places (mgAt Entry.Shortage (b .shortages)) (mgLine (ended (short .pattern)) (b .shortages))
+    (lines-gather places (mgAt Entry.Shortage (b .shortages)) (mgLine (ended (short .pattern)) (b .shortages))
     (mg-line Entry.Shortage (short .pattern) (λ m s y mg. refl) (b .shortages))))
 
 pub text-is : (b : Book) → bookText b ≡ ended (openLine (b .«open_year»)) ++ groups b

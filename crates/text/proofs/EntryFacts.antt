@@ -14,12 +14,8 @@ use Rattle.book.specs.Listing.{isCellYear}
 use Rattle.book.proofs.ListingLaws.{cell-year}
 use Rattle.text.specs.declared.entries.Entry.{Entry}
 use Rattle.text.specs.Entries.{familyIn, inBook, rank, allEntries}
+use Rattle.text.specs.EachEntry.{FamilyIn}
 use Rattle.text.proofs.EntryLineLaws.{AboveZero}
-
-pub record FamilyIn (m s n : ℕ) : Type 0 where
-  pub maker : m < makers
-  pub set : s < sets
-  pub number : n < families
 
 pub family-in : {m s n : ℕ} → familyIn m s n ≡ true → FamilyIn m s n
 family-in {m} {s} {n} e =
@@ -27,11 +23,11 @@ family-in {m} {s} {n} e =
     let w = both (ltb s sets) _ (v .1) in
     record { maker = ltb-true m makers (v .0); set = ltb-true s sets (w .0); number = ltb-true n families (w .1) }
 
-in-family : {m s n : ℕ} → FamilyIn m s n → familyIn m s n ≡ true
+pub in-family : {m s n : ℕ} → FamilyIn m s n → familyIn m s n ≡ true
 in-family {m} {s} {n} i =
     and-intro (lt-ltb m makers (i .maker)) (and-intro (lt-ltb s sets (i .set)) (lt-ltb n families (i .number)))
 
-in-figure : {m s y : ℕ} → In (key m s y) → isCellYear m s y ≡ true
+pub in-figure : {m s y : ℕ} → In (key m s y) → isCellYear m s y ≡ true
 unfolding isCellYear
 in-figure {m} {s} {y} i =
     and-intro (lt-ltb m makers (i .maker))

@@ -20,11 +20,14 @@ use Rattle.book.specs.Postings.{stored}
 use Rattle.book.specs.Companions.{Sized}
 use Rattle.book.specs.declared.ledger.Book.{Book}
 use Rattle.book.proofs.MarkLaws.{marked-same, marked-other}
+use Rattle.text.specs.Gather.{gather}
 use Rattle.text.specs.declared.entries.Entry.{Entry}
-use Rattle.text.specs.Entries.{filedAt, familyAt, mgAt, collect, entries, rank, allEntries, enter, emptyAt}
+use Rattle.text.specs.Entries.{filedAt, familyAt, mgAt, entries, rank, allEntries, enter, emptyAt}
 use Rattle.text.specs.RoundTrip.{Marks64, ZeroUnmarked}
-use Rattle.text.proofs.EntryFacts.{FamilyIn, Inside}
-use Rattle.text.proofs.EntryOrderLaws.{Stores, collect-same, collect-append}
+use Rattle.text.specs.EachEntry.{FamilyIn}
+use Rattle.text.proofs.EntryFacts.{Inside}
+use Rattle.text.proofs.GatherLaws.{gather-same, gather-append}
+use Rattle.text.proofs.EntryOrderLaws.{Stores}
 
 -- ---- families
 module _ (marks : List ℕ) (parts : List ℤ) (m s n : ℕ) (z : ℤ) (lm : length marks ≡ cells) (lp : length parts ≡ allParts)
@@ -164,15 +167,15 @@ look-shortage b i =
       e,
     )
 
-pub entries-are : (b : Book) → entries b ≡ collect allEntries (look b)
+pub entries-are : (b : Book) → entries b ≡ gather allEntries (look b)
 unfolding entries
 entries-are b = sym (
-    collect-append (look b) allParts (places + places)
+    gather-append (look b) allParts (places + places)
     ∙ rw (
-      collect-same (look b) (familyAt (b .marks) (b .parts)) allParts (look-family b),
-      collect-append (λ i. look b (allParts + i)) places places,
-      collect-same (λ i. look b (allParts + i)) (mgAt Entry.Lot (b .lots)) places (look-lot b),
-      collect-same (λ i. look b (allParts + (places + i))) (mgAt Entry.Shortage (b .shortages)) places
+      gather-same (look b) (familyAt (b .marks) (b .parts)) allParts (look-family b),
+      gather-append (λ i. look b (allParts + i)) places places,
+      gather-same (λ i. look b (allParts + i)) (mgAt Entry.Lot (b .lots)) places (look-lot b),
+      gather-same (λ i. look b (allParts + (places + i))) (mgAt Entry.Shortage (b .shortages)) places
           (λ i h. look-shortage b i),
     ))
 

@@ -2,11 +2,14 @@
 use Prim.Native.Nat.{ℕ, zero, suc, _+_, _-_, _≤_, _<_}
 use native.Mathlib.Omega.{arith}
 use native.Mathlib.Decide.{ℕ-discrete}
-use mathlib.Core.Path.{_≡_, refl, sym, ap, _∙_}
+use mathlib.Core.Path.{_≡_, refl, sym, ap, subst, _∙_}
 use mathlib.Core.List.{List, [], _∷_, _++_, append-assoc, append-nil}
+use Rattle.book.specs.Orders.{Among}
 use Rattle.book.specs.declared.ledger.Book.{Book}
+use Rattle.text.specs.Gather.{gather}
 use Rattle.text.specs.declared.entries.Entry.{Entry}
-use Rattle.text.specs.Entries.{collect, rank, enter}
+use Rattle.text.specs.Entries.{rank, enter}
+use Rattle.text.proofs.GatherLaws.{gather-same, gather-rest}
 
 unfoldable pub enterAll : Book → List Entry → Book
 enterAll b [] = b
@@ -16,27 +19,6 @@ pub enter-append : (b : Book) (xs ys : List Entry) → enterAll b (xs ++ ys) ≡
 unfolding enterAll
 enter-append b [] ys = refl
 enter-append b (x ∷ xs) ys = enter-append (enter b x) xs ys
-
-pub collect-same : (f g : ℕ → List Entry) (n : ℕ) → ((i : ℕ) → i < n → f i ≡ g i) → collect n f ≡ collect n g
-unfolding collect
-collect-same f g zero h = refl
-collect-same f g (suc n) h = rw (collect-same f g n (λ i l. h i (omega arith)), h n (omega arith))
-
--- from k on there is nothing
-pub collect-rest : (f : ℕ → List Entry) (k d : ℕ) → ((i : ℕ) → k ≤ i → f i ≡ []) → collect (d + k) f ≡ collect k f
-unfolding collect
-collect-rest f k zero h = let e : zero + k ≡ k = omega arith in rw e
-collect-rest f k (suc d) h =
-    let e : suc d + k ≡ suc (d + k) = omega arith in
-    rw (e, h (d + k) (omega arith), append-nil) (collect-rest f k d h)
-
--- one collection after another
-pub collect-append : (f : ℕ → List Entry) (n m : ℕ) → collect (n + m) f ≡ collect n f ++ collect m (λ i. f (n + i))
-unfolding collect
-collect-append f n zero = let e : n + zero ≡ n = omega arith in rw (e, append-nil)
-collect-append f n (suc m) =
-    let e : n + suc m ≡ suc (n + m) = omega arith in
-    rw (e, collect-append f n m) (append-assoc (collect n f) (collect m (λ i. f (n + i))) (f (n + m)))
 
 -- entries of ranks that rise, from `least` on, up to the one before n
 abbrev pub Rising : (Entry → Type 0) → ℕ → ℕ → List Entry → Type 0
@@ -59,20 +41,29 @@ pub rising-last :
 rising-last In n least [] e h i m = (i, (omega arith, omega arith))
 rising-last In n least (x ∷ es) e h i m = (h .0, (h .1 .0, rising-last In n (suc (rank x)) es e (h .1 .1) i m))
 
+-- what is among them is one of them
+pub rising-among :
+    (In : Entry → Type 0) (n least : ℕ) (es : List Entry) (e : Entry) → Rising In n least es → Among e es → In e
+rising-among In n least es e h p = go (p .before) least (subst (Rising In n least) (p .here) h)
+  where
+    go : (bs : List Entry) (l : ℕ) → Rising In n l (bs ++ e ∷ p .after) → In e
+    go [] l h = h .0
+    go (b ∷ bs) l h = go bs (suc (rank b)) (h .1 .1)
+
 -- at a rank a book has no entry, or one of that rank
 pub data Has (In : Entry → Type 0) (l : List Entry) (r : ℕ) : Type 0 where
   nothing : l ≡ [] → Has In l r
   one : (e : Entry) → l ≡ e ∷ [] → In e → rank e ≡ r → Has In l r
 
-pub collect-rises :
-    (In : Entry → Type 0) (f : ℕ → List Entry) (n : ℕ) → ((r : ℕ) → r < n → Has In (f r) r) → Rising In n 0 (collect n f)
-unfolding collect
-collect-rises In f zero h = omega arith
-collect-rises In f (suc n) h = go (h n (omega arith)) (collect-rises In f n (λ r l. h r (omega arith)))
+pub gather-rises :
+    (In : Entry → Type 0) (f : ℕ → List Entry) (n : ℕ) → ((r : ℕ) → r < n → Has In (f r) r) → Rising In n 0 (gather n f)
+unfolding gather
+gather-rises In f zero h = omega arith
+gather-rises In f (suc n) h = go (h n (omega arith)) (gather-rises In f n (λ r l. h r (omega arith)))
   where
-    go : Has In (f n) n → Rising In n 0 (collect n f) → Rising In (suc n) 0 (collect n f ++ f n)
-    go (nothing z) ih = rw (z, append-nil) (rising-more In n 0 (collect n f) ih)
-    go (one e z i m) ih = rw z (rising-last In n 0 (collect n f) e ih i m)
+    go : Has In (f n) n → Rising In n 0 (gather n f) → Rising In (suc n) 0 (gather n f ++ f n)
+    go (nothing z) ih = rw (z, append-nil) (rising-more In n 0 (gather n f) ih)
+    go (one e z i m) ih = rw z (rising-last In n 0 (gather n f) e ih i m)
 
 -- what is to be shown of books: what is looked up at a rank after an entry was entered
 pub record Stores (Good : Book → Type 0) (In : Entry → Type 0) (look : Book → ℕ → List Entry) (total : ℕ) : Type 1 where
@@ -86,22 +77,22 @@ module _ {Good : Book → Type 0} {In : Entry → Type 0} {look : Book → ℕ �
   pub entered-collected :
       (least : ℕ) (b : Book) (es : List Entry)
       → Good b → ((r : ℕ) → least ≤ r → look b r ≡ []) → Rising In total least es
-      → collect total (look (enterAll b es)) ≡ collect least (look b) ++ es
-  unfolding enterAll collect
+      → gather total (look (enterAll b es)) ≡ gather least (look b) ++ es
+  unfolding enterAll gather
   entered-collected least b [] g h u =
       let e : total ≡ (total - least) + least = omega arith in
-      ap (λ (n : ℕ). collect n (look b)) e ∙ collect-rest (look b) least (total - least) h
-      ∙ sym (append-nil (collect least (look b)))
+      ap (λ (n : ℕ). gather n (look b)) e ∙ gather-rest (look b) least (total - least) h
+      ∙ sym (append-nil (gather least (look b)))
   entered-collected least b (e ∷ es) g h u =
       let b′ : Book = enter b e in
       let r : ℕ = rank e in
       let ih = entered-collected (suc r) b′ es (S .keeps b e g (u .0))
       (λ i m. S .other b e i g (u .0) (λ q. omega arith) ∙ h i (omega (arith, u .1 .0))) (u .1 .1) in
       let k : r ≡ (r - least) + least = omega (arith, u .1 .0) in
-      let front : collect r (look b′) ≡ collect least (look b) =
-      collect-same (look b′) (look b) r (λ i m. S .other b e i g (u .0) (λ q. omega arith))
-      ∙ ap (λ (n : ℕ). collect n (look b)) k ∙ collect-rest (look b) least (r - least) h in
-      ih ∙ rw (front, S .same b e g (u .0)) (append-assoc (collect least (look b)) (e ∷ []) es)
+      let front : gather r (look b′) ≡ gather least (look b) =
+      gather-same (look b′) (look b) r (λ i m. S .other b e i g (u .0) (λ q. omega arith))
+      ∙ ap (λ (n : ℕ). gather n (look b)) k ∙ gather-rest (look b) least (r - least) h in
+      ih ∙ rw (front, S .same b e g (u .0)) (append-assoc (gather least (look b)) (e ∷ []) es)
 
   -- what is collected of a book c below n, entered into a book b that has nothing
   pub record Copied (c b : Book) (n : ℕ) : Type 0 where
@@ -134,9 +125,9 @@ module _ {Good : Book → Type 0} {In : Entry → Type 0} {look : Book → ℕ �
 
   pub collected-entered :
       (c b : Book) → ((r : ℕ) → r < total → Has In (look c r) r)
-      → Good b → ((r : ℕ) → look b r ≡ []) → (n : ℕ) → n ≤ total → Copied c (enterAll b (collect n (look c))) n
-  unfolding collect enterAll
+      → Good b → ((r : ℕ) → look b r ≡ []) → (n : ℕ) → n ≤ total → Copied c (enterAll b (gather n (look c))) n
+  unfolding gather enterAll
   collected-entered c b f g z zero l = record { good = g; done = λ r h. absurd (omega arith); rest = λ r h. z r }
   collected-entered c b f g z (suc n) l =
-      rw (enter-append b (collect n (look c)) (look c n))
-      (one-more c (enterAll b (collect n (look c))) n (f n l) (collected-entered c b f g z n (omega arith)))
+      rw (enter-append b (gather n (look c)) (look c n))
+      (one-more c (enterAll b (gather n (look c))) n (f n l) (collected-entered c b f g z n (omega arith)))

@@ -22,9 +22,11 @@ pub mod TableTextLaws
 pub mod LoadLaws
 pub mod FeedLaws
 pub mod EntryLineLaws
+pub mod GatherLaws
 pub mod EntryOrderLaws
 pub mod EntryFacts
 pub mod EntryLaws
+pub mod EachEntryLaws
 pub mod SameBookLaws
 pub mod AcceptedTextLaws
 pub mod WritableLaws

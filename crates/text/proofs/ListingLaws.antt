@@ -13,9 +13,10 @@ use Rattle.book.specs.Listing.{lotEntry, shortageEntry}
 use Rattle.book.specs.declared.ledger.Book.{Book}
 use Rattle.book.specs.declared.listing.LotEntry.{LotEntry}
 use Rattle.book.specs.declared.listing.ShortageEntry.{ShortageEntry}
+use Rattle.text.specs.Gather.{gather}
 use Rattle.text.specs.Pattern.{filled}
 use Rattle.text.specs.Placing.{Stands}
-use Rattle.text.specs.Listing.{entryRoom, lotText, shortageText, gather, lotLine, shortageLine, cellText}
+use Rattle.text.specs.Listing.{entryRoom, lotText, shortageText, lotLine, shortageLine, cellText}
 use Rattle.text.specs.Listing.{makerText}
 use Rattle.text.proofs.FillLaws.{filled-zeros, filled-digits, numeral-length}
 use Rattle.text.proofs.NumeralLaws.{numeral-short}

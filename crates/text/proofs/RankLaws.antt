@@ -13,7 +13,8 @@ use Rattle.book.proofs.ListingLaws.{cell-year}
 use Rattle.text.specs.declared.entries.Entry.{Entry}
 use Rattle.text.specs.Entries.{inBook, rank}
 use Rattle.text.specs.BookOrder.{lesser, RankOrders}
-use Rattle.text.proofs.EntryFacts.{FamilyIn, family-in}
+use Rattle.text.specs.EachEntry.{FamilyIn}
+use Rattle.text.proofs.EntryFacts.{family-in}
 
 -- a test by the first figure that differs is that of a number x against y, if x and y order so
 module _ (x y a b : ℕ) (t : Bool) (up : a < b → x < y) (down : b < a → y ≤ x) (level : a ≡ b → ltb x y ≡ t) where

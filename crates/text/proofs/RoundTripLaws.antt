@@ -20,19 +20,21 @@ use Rattle.book.specs.declared.ledger.Book.{Book}
 use Rattle.book.specs.declared.answers.Refusal.{Refusal}
 use Rattle.book.specs.declared.answers.Refusal.the-variants.{UnsoundBook, NotABook}
 use Rattle.book.proofs.SoundnessLaws.{sound-is}
+use Rattle.text.specs.Gather.{gather}
 use Rattle.text.specs.declared.entries.Entry.{Entry}
 use Rattle.text.specs.Pattern.{figures}
 use Rattle.text.specs.Lines.{linesFrom, linesOf}
 use Rattle.text.specs.Rendered.{Small}
 use Rattle.text.specs.Loads.{Read, accepted, refused}
-use Rattle.text.specs.Entries.{entryIf, filedAt, familyAt, mgAt, collect, entries, rank, allEntries, enter, emptyAt}
+use Rattle.text.specs.Entries.{entryIf, filedAt, familyAt, mgAt, entries, rank, allEntries, enter, emptyAt}
 use Rattle.text.specs.BookText.{entryFigures, entryLine, entryLines, openLine, bookText}
 use Rattle.text.specs.BookReading.{bookDigits, onlyIf, entered, bookIn, endsInFeed, allEnded, judged, readBook}
 use Rattle.text.specs.RoundTrip.{Marks64, Writable, ReadSound, RoundTrip, Exact}
 use Rattle.text.proofs.SessionLaws.{lines}
 use Rattle.text.proofs.FeedLaws.{feed-then}
 use Rattle.text.proofs.EntryLineLaws.{line-read, one-line, open-read, open-one}
-use Rattle.text.proofs.EntryOrderLaws.{Rising, Has, nothing, one, enterAll, collect-rises, collected-entered}
+use Rattle.text.proofs.EachEntryLaws.{familyOf, has-each}
+use Rattle.text.proofs.EntryOrderLaws.{Rising, Has, nothing, one, enterAll, gather-rises, collected-entered}
 use Rattle.text.proofs.EntryFacts.{Inside, is-inside}
 use Rattle.text.proofs.EntryLaws.{look, look-family, look-lot, look-shortage, entries-are}
 use Rattle.text.proofs.EntryLaws.{Neat, empty-neat, empty-look, stores}
@@ -65,37 +67,8 @@ module _ (b : Book) (s : Writable b) where
   neat : Neat b
   neat = record { sized = s .sized; bits = s .bits; unmarked = s .unmarked }
 
-  figure-has :
-      (kind : ℕ → ℕ → ℕ → ℕ → Entry) (l : List ℕ) (i r : ℕ)
-      → (0 < getD l i 0 → Fine (kind (i / years / sets) (i / years % sets) (firstYear + i % years) (getD l i 0))
-      × (rank (kind (i / years / sets) (i / years % sets) (firstYear + i % years) (getD l i 0)) ≡ r))
-      → Has Fine (mgAt kind l i) r
-  unfolding mgAt
-  figure-has kind l i r h = go (ltb 0 (getD l i 0)) refl
-    where
-      go :
-          (t : Bool) → ltb 0 (getD l i 0) ≡ t
-          → Has Fine (entryIf t (kind (i / years / sets) (i / years % sets) (firstYear + i % years) (getD l i 0))) r
-      go true e = let k = h (ltb-true 0 (getD l i 0) e) in one _ refl (k .0) (k .1)
-      go false e = nothing refl
-
-  lot-has : (i : ℕ) → i < places → Has Fine (look b (allParts + i)) (allParts + i)
-  unfolding rank
-  lot-has i h =
-      rw (look-lot b i h)
-      (figure-has Entry.Lot (b .lots) i (allParts + i)
-      (λ p. (((omega arith, p), (omega arith, (omega arith, (omega arith, (s .lots i, tt))))), omega arith)))
-
-  shortage-has : (i : ℕ) → i < places → Has Fine (look b (allParts + (places + i))) (allParts + (places + i))
-  unfolding rank
-  shortage-has i h =
-      rw (look-shortage b i)
-      (figure-has Entry.Shortage (b .shortages) i (allParts + (places + i))
-      (λ p. (((omega arith, p), (omega arith, (omega arith, (omega arith, (s .shortages i, tt))))), omega arith)))
-
-  family-has : (i : ℕ) → i < allParts → Has Fine (look b i) i
-  unfolding rank familyAt
-  family-has i h = rw (look-family b i h) (go (filedAt (b .marks) i))
+  family-fine : (i : ℕ) → i < allParts → Fine (familyOf b i)
+  family-fine i h = (omega arith, small (getD (b .parts) i (pos 0)) (s .parts i))
     where
       small :
           (z : ℤ) → Lowℤ z
@@ -103,25 +76,11 @@ module _ (b : Book) (s : Writable b) where
       small (pos z) l = (omega arith, (omega arith, (omega arith, (l, tt))))
       small (negsuc z) l = (omega arith, (omega arith, (omega arith, (l, tt))))
 
-      go :
-          (t : Bool)
-          → Has Fine
-          (entryIf t
-          (Entry.Family (i / families / sets) (i / families % sets) (i % families) (getD (b .parts) i (pos 0)))) i
-      go true = one _ refl (omega arith, small (getD (b .parts) i (pos 0)) (s .parts i)) (omega arith)
-      go false = nothing refl
-
   has : (r : ℕ) → r < allEntries → Has Fine (look b r) r
-  has r h = go (decLt r allParts) (decLt r (allParts + places))
-    where
-      go : Dec (r < allParts) → Dec (r < allParts + places) → Has Fine (look b r) r
-      go (yes p) q = family-has r p
-      go (no p) (yes q) =
-          let e : allParts + (r - allParts) ≡ r = omega arith in
-          rw e at (lot-has (r - allParts) (omega arith))
-      go (no p) (no q) =
-          let e : allParts + (places + (r - (allParts + places))) ≡ r = omega arith in
-          rw e at (shortage-has (r - (allParts + places)) (omega arith))
+  has =
+      has-each Fine b (λ i h e. family-fine i h)
+      (λ i h p. ((omega arith, p), (omega arith, (omega arith, (omega arith, (s .lots i, tt))))))
+      (λ i h p. ((omega arith, p), (omega arith, (omega arith, (omega arith, (s .shortages i, tt))))))
 
   has-inside : (r : ℕ) → r < allEntries → Has Inside (look b r) r
   has-inside r h = go (has r h)
@@ -136,11 +95,11 @@ module _ (b : Book) (s : Writable b) where
       let y : ℕ = b .«open_year» in
       let k = collected-entered stores b (emptyAt y) has-inside (empty-neat y) (empty-look y) allEntries (omega arith) in
       ap (enterAll (emptyAt y)) (entries-are b)
-      ∙ same-entries (enterAll (emptyAt y) (collect allEntries (look b))) b (k .good) neat (k .done)
-      (open-year y (collect allEntries (look b)))
+      ∙ same-entries (enterAll (emptyAt y) (gather allEntries (look b))) b (k .good) neat (k .done)
+      (open-year y (gather allEntries (look b)))
 
   rises : Rising Fine allEntries 0 (entries b)
-  rises = rw (entries-are b) (collect-rises Fine (look b) allEntries has)
+  rises = rw (entries-are b) (gather-rises Fine (look b) allEntries has)
 
   text-ends : allEnded (bookText b) ≡ true
   unfolding bookText

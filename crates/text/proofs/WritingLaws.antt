@@ -25,12 +25,13 @@ use Rattle.book.specs.declared.answers.Refusal.the-variants.{UnsoundBook, Short
 use Rattle.book.specs.declared.answers.Verdict.{Verdict}
 use Rattle.book.specs.declared.answers.Verdict.the-variants.{Accepted, Refuse}
 use Rattle.book.proofs.TableLaws.{cleared}
+use Rattle.text.specs.Gather.{gather}
 use Rattle.text.specs.declared.entries.Entry.{Entry}
 use Rattle.text.specs.declared.placing.Placed.{Placed}
 use Rattle.text.specs.declared.writing.Wrote.{Wrote}
 use Rattle.text.specs.Pattern.{filled}
 use Rattle.text.specs.Placing.{Stands, Puts, roomFor}
-use Rattle.text.specs.Listing.{entryRoom, gather}
+use Rattle.text.specs.Listing.{entryRoom}
 use Rattle.text.specs.Entries.{familyEntry, familyAt}
 use Rattle.text.specs.BookText.{family, familyBelow, lot, short, entryLine, entryLines, openForm, openLine}
 use Rattle.text.specs.BookText.{bookText, bookRoom}

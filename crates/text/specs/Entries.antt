@@ -14,6 +14,7 @@ use Rattle.book.specs.Listing.{isCellYear}
 use Rattle.book.specs.Postings.{emptyIn, stored, moved}
 use Rattle.book.specs.declared.ledger.Book.{Book}
 use Rattle.text.specs.declared.entries.Entry.{Entry}
+use Rattle.text.specs.Gather.{gather}
 
 -- ---- the entries of a book
 abbrev pub entryIf : Bool → Entry → List Entry
@@ -43,16 +44,11 @@ figureEntry kind mg i =
 unfoldable pub mgAt : (ℕ → ℕ → ℕ → ℕ → Entry) → List ℕ → ℕ → List Entry
 mgAt kind figures i = figureEntry kind (getD figures i 0) i
 
--- those of place 0, then of place 1, up to the one before place n
-unfoldable pub collect : ℕ → (ℕ → List Entry) → List Entry
-collect zero f = []
-collect (suc n) f = collect n f ++ f n
-
 -- a book's entries, in the order of the lines
 unfoldable pub entries : Book → List Entry
 entries b =
-    collect allParts (familyAt (b .marks) (b .parts))
-    ++ (collect places (mgAt Entry.Lot (b .lots)) ++ collect places (mgAt Entry.Shortage (b .shortages)))
+    gather allParts (familyAt (b .marks) (b .parts))
+    ++ (gather places (mgAt Entry.Lot (b .lots)) ++ gather places (mgAt Entry.Shortage (b .shortages)))
 
 -- ---- a book made of entries
 -- "a maker, set, number or year in it .. isn't one of the book's"

@@ -12,9 +12,11 @@ pub mod FirstLine
 pub mod Loads
 pub mod TableText
 pub mod TableReading
+pub mod Gather
 pub mod Listing
 pub mod Entries
 pub mod BookOrder
+pub mod EachEntry
 pub mod BookText
 pub mod Writing
 pub mod BookReading

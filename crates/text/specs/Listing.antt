@@ -11,6 +11,7 @@ use Rattle.book.specs.declared.listing.LotEntry.{LotEntry}
 use Rattle.book.specs.declared.listing.ShortageEntry.{ShortageEntry}
 use Rattle.text.specs.Ascii.{ascii}
 use Rattle.text.specs.Pattern.{filled}
+use Rattle.text.specs.Gather.{gather}
 
 -- no line of the listing is longer
 abbrev pub entryRoom : ℕ
@@ -29,11 +30,6 @@ abbrev pub shortageText : ℕ → ℕ → ℕ → ShortageEntry → List ℕ
 shortageText m s y (ShortageEntry.Open mg) = filled (ascii "(short # # # open #)\n") (m ∷ s ∷ y ∷ mg .0 ∷ [])
 shortageText m s y (ShortageEntry.Overdue mg) = filled (ascii "(short # # # overdue #)\n") (m ∷ s ∷ y ∷ mg .0 ∷ [])
 shortageText m s y ShortageEntry.NoShortage = []
-
--- f 0, then f 1, up to the one before f n
-unfoldable pub gather : ℕ → (ℕ → List ℕ) → List ℕ
-gather zero f = []
-gather (suc n) f = gather n f ++ f n
 
 -- o is the open year, l the book's lots; i counts the years from the first
 unfoldable pub lotLine : ℕ → List ℕ → ℕ → ℕ → ℕ → List ℕ

@@ -5,6 +5,7 @@ ghost use mathlib.Core.Path.{_≡_};
 ghost use Rattle.text.specs.Answers.{ByText};
 ghost use Rattle.text.specs.BookExamples.{BookEdges};
 ghost use Rattle.text.specs.BookOrder.{RankOrders};
+ghost use Rattle.text.specs.EachEntry.{EachEntry};
 ghost use Rattle.text.specs.Desk.{ByWhatIsHeld};
 ghost use Rattle.text.specs.Examples.{Edges, Fields, Run};
 ghost use Rattle.text.specs.Lines.{Lines};
@@ -91,9 +92,10 @@ pub fn books_by_their_text() -> bool
     true
 }
 
-// The lines of a book's text are in the order of the card's groups, each rising by its first three figures.
+// The lines of a book's text are those of its filed families, its lots and its shortages above 0, in the order of the
+// card's groups, each rising by its first three figures; and so does the rank by which the reader compares them.
 pub fn lines_in_order() -> bool
-    ensures { λ r. ⌜ (r ≡ true) × RankOrders ⌝ }
+    ensures { λ r. ⌜ (r ≡ true) × ((b : Book) → EachEntry b) × RankOrders ⌝ }
 {
     true
 }

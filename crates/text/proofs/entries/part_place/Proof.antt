@@ -1,6 +1,7 @@
 use native.Mathlib.Omega.{arith}
 use mathlib.Core.Path.{refl}
-use Rattle.text.proofs.EntryFacts.{FamilyIn, family-in}
+use Rattle.text.specs.EachEntry.{FamilyIn}
+use Rattle.text.proofs.EntryFacts.{family-in}
 use Rattle.text.proofs.entries.part_place.Statement.{statement}
 use Rattle.text.proofs.entries.part_place.Tie as tie
 

@@ -28,7 +28,7 @@ use Rattle.book.specs.declared.kinds.Call.{Call}
 use Rattle.book.specs.declared.kinds.Filing.{Filing}
 use Rattle.book.proofs.FileFacts.{Fileable}
 use Rattle.book.proofs.MarkLaws.{marked_same, marked_other}
-use Rattle.book.proofs.SoundnessLaws.{Sound, sound_is, is_sound_lem}
+use Rattle.book.proofs.SoundnessLaws.{Sound, sound_is, is_sound}
 use Rattle.book.proofs.Balances.{Agree, families_put}
 use Rattle.book.proofs.Lawful.{Lawful}
 
@@ -150,4 +150,4 @@ file_lawful t b f g =
 -- soundness is what it was
 pub still_sound :
     (t : Table) (b : Book) (f : Filing) → Sized b → Fileable t b f → sound (done t b (Call.File f)).book ≡ sound b
-still_sound t b f z h = is_sound_lem (done t b (Call.File f)).book ((file_lawful t b f h).sound z) ∙ sym h.sound
+still_sound t b f z h = is_sound (done t b (Call.File f)).book ((file_lawful t b f h).sound z) ∙ sym h.sound

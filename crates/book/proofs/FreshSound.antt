@@ -15,14 +15,14 @@ use Rattle.book.specs.Companions.{Sized}
 use Rattle.book.specs.Marked.{last_open}
 use Rattle.book.proofs.BelowLaws.{sum_zero}
 use Rattle.book.proofs.LedgerLaws.{at_zeros, no_part}
-use Rattle.book.proofs.SoundnessLaws.{is_sound_lem}
+use Rattle.book.proofs.SoundnessLaws.{is_sound}
 
 pub no_part_bounded : (c f : ℕ) → c < cells → f < families → nat_abs (part_at (replicate all_parts (pos 0)) c f) ≤ part_most
 no_part_bounded c f hc hf = omega (arith, ap nat_abs (no_part c f))
 
 pub empty_sound : (y : ℕ) → first_year ≤ y → y ≤ all_closed → sound (empty_in y) ≡ true
 empty_sound y l h =
-    is_sound_lem (empty_in y) (record {
+    is_sound (empty_in y) (record {
       low = l;
       high = h;
       bounded = no_part_bounded;

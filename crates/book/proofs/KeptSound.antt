@@ -10,7 +10,7 @@ use Rattle.book.specs.Companions.{Sized, KeepsSound}
 use Rattle.book.specs.declared.ledger.Book.{Book}
 use Rattle.book.specs.declared.kinds.Call.{Call}
 use Rattle.book.proofs.TableLaws.{by_verdict}
-use Rattle.book.proofs.SoundnessLaws.{is_sound_lem}
+use Rattle.book.proofs.SoundnessLaws.{is_sound}
 use Rattle.book.proofs.CallLaws.{lawful}
 
 pub keeps_sized : (t : Table) (b : Book) (c : Call) → Sized b → Sized (posted t b c).book
@@ -24,7 +24,7 @@ sized_after b (r ∷ rs) z = sized_after (posted_to b r).book rs (keeps_sized r.
 pub keeps_sound : (t : Table) (b : Book) (c : Call) → Sized b → sound b ≡ true → sound (posted t b c).book ≡ true
 keeps_sound t b c z s =
     by_verdict t b c (λ p. sound p.book ≡ true) (λ r. s)
-    (λ h e. is_sound_lem (done t b c).book ((lawful t b c h e).sound z))
+    (λ h e. is_sound (done t b c).book ((lawful t b c h e).sound z))
 
 pub sound_after : (b : Book) (rs : List Request) → Sized b → sound b ≡ true → sound (book_after b rs) ≡ true
 unfolding book_after

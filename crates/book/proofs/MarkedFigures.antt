@@ -23,7 +23,7 @@ use Rattle.book.specs.declared.ledger.Book.{Book}
 use Rattle.book.specs.declared.kinds.Call.{Call}
 use Rattle.book.specs.declared.answers.Posted.{Posted}
 use Rattle.book.proofs.LedgerLaws.{netted_in}
-use Rattle.book.proofs.SoundnessLaws.{Sound, sound_is, is_sound_lem}
+use Rattle.book.proofs.SoundnessLaws.{Sound, sound_is, is_sound}
 use Rattle.book.proofs.FreshSound.{fresh_sound, fresh_sized, last_sound, last_sized}
 use Rattle.book.proofs.FilingLaws.{stored_sized, stored_sound}
 use Rattle.book.proofs.KeptSound.{keeps_sound}
@@ -46,11 +46,11 @@ two_sound =
 
 two_earned : earned_by two_parts 0 ≡ 1
 unfolding two_parts one_part stored fresh_book cell_sum sum_below_ℤ earned_of
-two_earned = ap earned_of (Figuring.marked-figures).P7
+two_earned = ap earned_of (Figuring.marked_figures).P7
 
 close_two : posted built_in two_parts (Call.Close 2014) ≡ close_done two_parts
 unfolding posted rows_for head_rows own_rows close_rows done two_parts one_part stored fresh_book
-close_two = rw (is_sound_lem two_parts two_sound)
+close_two = rw (is_sound two_parts two_sound)
 
 two_taken : is_accepted (posted built_in two_parts (Call.Close 2014)).answer ≡ true
 unfolding close_done is_accepted
@@ -90,7 +90,7 @@ pub marked_figures : MarkedFigures
 unfolding posted rows_for head_rows own_rows file_rows done stored fresh_book is_accepted refusal_in marked standard_for tractor printed_for is_absent no_edition within_limits between
 marked_figures =
     record {
-      figuring = Figuring.marked-figures;
+      figuring = Figuring.marked_figures;
       P7 = (two_taken, two_lot);
       P10 = (
         rw (fresh_sound, built_in_accepted, as_printed 3 1 2014),

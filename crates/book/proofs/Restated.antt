@@ -36,7 +36,7 @@ use Rattle.book.specs.declared.answers.Answer.{Answer}
 use Rattle.book.specs.declared.answers.Posted.{Posted}
 use Rattle.figuring.proofs.BelowLaws.{all_at, all_of}
 use Rattle.book.proofs.TableLaws.{alike}
-use Rattle.book.proofs.SoundnessLaws.{Sound, sound_is, is_sound_lem, zero_is}
+use Rattle.book.proofs.SoundnessLaws.{Sound, sound_is, is_sound, zero_is}
 
 pub sound_parts : SoundParts
 unfolding part_sound
@@ -126,10 +126,10 @@ module _ (b : Book) where
       same_test (sound (restated_book b)) (old_sound b)
       (λ e.
       let s = sound_is (restated_book b) e in
-      and_intro (is_sound_lem b (was-sound s)) (all_of OldBound all_parts (was-bounded s)))
+      and_intro (is_sound b (was-sound s)) (all_of OldBound all_parts (was-bounded s)))
       (λ e.
       let h = both (sound b) (all_below all_parts OldBound) e in
-      is_sound_lem (restated_book b) (stays_sound_lem (sound_is b h.0) (λ i l. all_at OldBound all_parts i l h.1)))
+      is_sound (restated_book b) (stays_sound_lem (sound_is b h.0) (λ i l. all_at OldBound all_parts i l h.1)))
 
   -- ---- refusals
   same_beside : (t : Table) (c : Call) → table_rows t (restated_call c) ≡ table_rows t c

@@ -125,9 +125,9 @@ module _ (b : Book) (s : Sound b) where
       and_intro (eq-eqb (figure_at b.lots (key m k (first_year + i))) 0 a.0)
       (eq-eqb (figure_at b.shortages (key m k (first_year + i))) 0 a.1)))
 
-  pub is_sound_lem : sound b ≡ true
+  pub is_sound : sound b ≡ true
   unfolding sound year_in_range cells_sound maker_sound cell_sound totals_sound set_sound total_sound
-  is_sound_lem =
+  is_sound =
       and_intro (and_intro (le-leb first_year b.open_year s.low) (le-leb b.open_year all_closed s.high))
       (and_intro
       (all_of (maker_sound b) makers (λ m hm. all_of (cell_sound b m) sets (λ k hk.

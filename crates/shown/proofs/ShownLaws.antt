@@ -70,8 +70,8 @@ module _ (t : Table) (b : Book) (input : List ℕ) where
 
   -- ---- begun with a sound book
   module _ (z : Sized b) (s : sound b ≡ true) where
-    is_sound_lem : sound (final_book t b input) ≡ true
-    is_sound_lem = ap sound by_calls.book ∙ (never_unsound b z s (calls t input)).stays_sound
+    is_sound : sound (final_book t b input) ≡ true
+    is_sound = ap sound by_calls.book ∙ (never_unsound b z s (calls t input)).stays_sound
 
     reconciled : (k : Key) → In k → Reconciled (final_book t b input) (accounts_after b (calls t input)) k
     reconciled k i =
@@ -82,7 +82,7 @@ module _ (t : Table) (b : Book) (input : List ℕ) where
         record {
           never_two = no_two t b (lines_of input) z s;
           stays_sized = subst Sized (sym by_calls.book) (sized_after b (calls t input) z);
-          stays_sound = is_sound_lem;
+          stays_sound = is_sound;
           demand3 = demand3 b z (calls t input);
           reconciled = reconciled;
         }
@@ -99,7 +99,7 @@ module _ (t : Table) (b : Book) (input : List ℕ) where
 
     listed : listing (final_book t b input) ≡ statement b.open_year (opening_of b) (postings t b input)
     listed =
-        listing_is (final_book t b input) A (sound_is (final_book t b input) is_sound_lem) by-postings
+        listing_is (final_book t b input) A (sound_is (final_book t b input) is_sound) by-postings
         ∙ ap (λ (y : ℕ). item_lines y (items A)) year-is
 
     exact : (k : Key) → In k → Exact A k
@@ -112,11 +112,11 @@ module _ (t : Table) (b : Book) (input : List ℕ) where
     -- a balance of a sound book has at most 12 digits
     small : (x : Item) → Says A x → Small most_digits (item_figures x)
     small (lot k n) h =
-        let w = sound_is (final_book t b input) is_sound_lem in
+        let w = sound_is (final_book t b input) is_sound in
         let i = h.1.0 in
         (omega arith, (omega arith, (omega arith, (omega (arith, h.1.1, (by-postings k i).lot, sound_lot (final_book t b input) w k i), tt))))
     small (short k n) h =
-        let w = sound_is (final_book t b input) is_sound_lem in
+        let w = sound_is (final_book t b input) is_sound in
         let i = h.1.0 in
         (omega arith, (omega arith, (omega arith, (omega (arith, h.1.1, (by-postings k i).shortage, w.shortage k i), tt))))
 

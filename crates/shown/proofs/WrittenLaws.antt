@@ -50,7 +50,7 @@ from_text t s b input e =
     let h = round_trip.read_sound s b e in
     record {
       begins = h;
-      demands = demands t b input h.sized h.is_sound_lem;
-      on_screen = on_screen t b input h.sized h.is_sound_lem;
-      written_out = written_out t b input h.sized h.bits h.is_sound_lem;
+      demands = demands t b input h.sized h.is_sound;
+      on_screen = on_screen t b input h.sized h.is_sound;
+      written_out = written_out t b input h.sized h.bits h.is_sound;
     }

@@ -169,4 +169,4 @@ first_bytes_lem t = go (dec_le (length t) book_room)
         ∙ sym (longer t (omega arith))
 
 pub room : Room
-room = record { longest = longest; longer = longer; first_bytes_lem = first_bytes_lem }
+room = record { longest = longest; longer = longer; first_bytes = first_bytes_lem }

@@ -124,7 +124,7 @@ same_book b n w e = each b (sound_writable b n w (sound_is b e)) ∙ rw e
 -- an accepted book is the one that the text's lines make, and is sound
 record Judged (t : List ℕ) (b : Book) : Type 0 where
   lines_make : only_if (all_ended t) (book_in (lines_of t)) ≡ some b
-  is_sound_lem : sound b ≡ true
+  is_sound : sound b ≡ true
 
 accepted_is : (t : List ℕ) (b : Book) → read_book t ≡ accepted b → Judged t b
 unfolding read_book
@@ -135,7 +135,7 @@ accepted_is t b q = go (only_if (all_ended t) (book_in (lines_of t))) refl q
         → ◌≡◌ {A = Read Book} (cond e (accepted c) (refused UnsoundBook)) (accepted b) → Judged t b
     judge c true e p q =
         let z : c ≡ b = cc in
-        subst (Judged t) z (record { lines_make = p; is_sound_lem = e })
+        subst (Judged t) z (record { lines_make = p; is_sound = e })
     judge c false e p q = let z : ◌≡◌ {A = ℕ} 0 1 = cc in absurd (omega arith)
 
     go : (o : Option Book) → only_if (all_ended t) (book_in (lines_of t)) ≡ o → judged o ≡ accepted b → Judged t b
@@ -149,7 +149,7 @@ read_sound : (t : List ℕ) (b : Book) → read_book t ≡ accepted b → ReadSo
 read_sound t b q =
     let j = accepted_is t b q in
     let w = (text_is t b j.lines_make).writable in
-    record { sized = w.sized; bits = w.bits; is_sound_lem = j.is_sound_lem }
+    record { sized = w.sized; bits = w.bits; is_sound = j.is_sound }
 
 pub else_22 : (t : List ℕ) → ((b : Book) → Writable b → book_text b ≡ t → ⊥) → read_book t ≡ refused NotABook
 unfolding read_book

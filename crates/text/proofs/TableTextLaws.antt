@@ -150,5 +150,5 @@ table_texts =
       each = each;
       faults = faults;
       refusals = λ s r e. refusals grid_years first_year no_row (lines_of s) r e;
-      first_bytes_lem = λ s. decided grid_years first_year no_row table_room s (lit≤ tt);
+      first_bytes = λ s. decided grid_years first_year no_row table_room s (lit≤ tt);
     }

@@ -26,7 +26,7 @@ NoBook t = read_book t ≡ refused NotABook
 pub record BookEdges : Type 0 where
   -- each figure in its place
   pub family : ascii "(family 1 2 3 45)" says Entry.Family 1 2 3 (pos 45)
-  pub family_below_lem : ascii "(family 1 2 3 -45)" says Entry.Family 1 2 3 (neg 45)
+  pub family_below : ascii "(family 1 2 3 -45)" says Entry.Family 1 2 3 (neg 45)
   pub lot : ascii "(lot 1 2 2014 5)" says Entry.Lot 1 2 2014 5
   pub short : ascii "(short 1 2 2014 5)" says Entry.Shortage 1 2 2014 5
   pub written_below : entry_line (Entry.Family 1 2 3 (neg 45)) ≡ ascii "(family 1 2 3 -45)"
@@ -51,8 +51,8 @@ pub record BookEdges : Type 0 where
   pub set_above : in_book (Entry.Lot 7 4 2014 1) ≡ false
   pub number_above : in_book (Entry.Family 7 3 64 (pos 0)) ≡ false
   pub year_before : in_book (Entry.Shortage 0 0 2013 1) ≡ false
-  pub last_year_lem : in_book (Entry.Shortage 0 0 2037 1) ≡ true
-  pub year_after_lem : in_book (Entry.Shortage 0 0 2038 1) ≡ false
+  pub last_year : in_book (Entry.Shortage 0 0 2037 1) ≡ true
+  pub year_after : in_book (Entry.Shortage 0 0 2038 1) ≡ false
   -- whatever the book, a line that is repeated or out of order
   pub repeated : (b : Book) → entered 0 b (ascii "(lot 0 0 2014 5)" ∷ ascii "(lot 0 0 2014 5)" ∷ []) ≡ none
   pub group_before : (b : Book) → entered 0 b (ascii "(short 0 0 2014 5)" ∷ ascii "(lot 7 3 2037 5)" ∷ []) ≡ none

@@ -110,7 +110,7 @@ pub record Edges : Type 0 where
   pub space_after : NoForm (ascii "(close (year 2014)) ")
   pub carriage_return : NoForm (ascii "(close (year 2014))\r")
   -- the form before card 5
-  pub no_edition_lem :
+  pub no_edition :
       NoForm (ascii "(file (maker 0) (set 3) (year 2014) (use 1) (family 0) (fcl 465) (cf 280000) (volume 1000) (life 435))")
   pub other_order : NoForm (ascii "(apply (maker 1) (set 3) (year 2014) (vintage 2014) (mg 261))")
   -- a form at a place of a line of 160 bytes, and of a line of 161

@@ -33,7 +33,7 @@ pub record Writable (b : Book) : Type 0 where
 pub record ReadSound (b : Book) : Type 0 where
   pub sized : Sized b
   pub bits : Marks64 b
-  pub is_sound_lem : sound b ≡ true
+  pub is_sound : sound b ≡ true
 
 pub record RoundTrip : Type 0 where
   pub same_book : (b : Book) → Sized b → Marks64 b → sound b ≡ true → read_book (book_text b) ≡ accepted b
@@ -54,4 +54,4 @@ pub record Room : Type 0 where
   -- so the length of a longer text alone decides
   pub longer : (t : List ℕ) → book_room < length t → read_book t ≡ refused NotABook
   -- and whatever a text's length, its first bytes do: those past them cannot change what it is read as
-  pub first_bytes_lem : (t : List ℕ) → read_book (take (suc book_room) t) ≡ read_book t
+  pub first_bytes : (t : List ℕ) → read_book (take (suc book_room) t) ≡ read_book t

@@ -126,4 +126,4 @@ pub record TableTexts : Type 0 where
   -- no text is refused but by 19 or 20
   pub refusals : (s : List ℕ) (r : Refusal) → table_of s ≡ refused r → (r ≡ NotATable) ⊎ (r ≡ UnfitTable)
   -- whatever a text's length, its first bytes decide: those past them cannot change what it is read as
-  pub first_bytes_lem : (s : List ℕ) → table_of (take table_room s) ≡ table_of s
+  pub first_bytes : (s : List ℕ) → table_of (take table_room s) ≡ table_of s

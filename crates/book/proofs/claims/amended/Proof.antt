@@ -5,7 +5,7 @@ use Rattle.book.proofs.claims.amended.Statement.{statement}
 use Rattle.book.proofs.claims.amended.Tie as tie
 
 returns : tie.Need-returns
-returns c = (refl, laws.amends, laws.stands-in-place)
+returns c = (refl, laws.amends, laws.stands_in_place)
 
 pub amended_spec : {M : Type 1} → statement M
 amended_spec = tie.close (tie.spec returns)

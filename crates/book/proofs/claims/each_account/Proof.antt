@@ -5,7 +5,7 @@ use Rattle.book.proofs.claims.each_account.Statement.{statement}
 use Rattle.book.proofs.claims.each_account.Tie as tie
 
 returns : tie.Need-returns
-returns c = (refl, laws.each-account)
+returns c = (refl, laws.each_account)
 
 pub each_account_spec : {M : Type 1} → statement M
 each_account_spec = tie.close (tie.spec returns)

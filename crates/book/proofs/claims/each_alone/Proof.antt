@@ -5,7 +5,7 @@ use Rattle.book.proofs.claims.each_alone.Statement.{statement}
 use Rattle.book.proofs.claims.each_alone.Tie as tie
 
 returns : tie.Need-returns
-returns c = (refl, laws.each-alone)
+returns c = (refl, laws.each_alone)
 
 pub each_alone_spec : {M : Type 1} → statement M
 each_alone_spec = tie.close (tie.spec returns)

@@ -5,7 +5,7 @@ use Rattle.book.proofs.claims.filing_order.Statement.{statement}
 use Rattle.book.proofs.claims.filing_order.Tie as tie
 
 returns : tie.Need-returns
-returns c = (refl, laws.filing-order)
+returns c = (refl, laws.filing_order)
 
 pub filing_order_spec : {M : Type 1} → statement M
 filing_order_spec = tie.close (tie.spec returns)

@@ -5,7 +5,7 @@ use Rattle.book.proofs.claims.marked_figures.Statement.{statement}
 use Rattle.book.proofs.claims.marked_figures.Tie as tie
 
 returns : tie.Need-returns
-returns c = (refl, laws.marked-figures)
+returns c = (refl, laws.marked_figures)
 
 pub marked_figures_spec : {M : Type 1} → statement M
 marked_figures_spec = tie.close (tie.spec returns)

@@ -60,7 +60,7 @@ past_5 c =
 
 past_6 : (c : tie.Else6) → Past 6 (rows (start_6 c))
 unfolding file_rows
-past_6 c = past_5 c.before.before ∙ rw (← c.before.no_edition_lem.ensures, c.if6.false)
+past_6 c = past_5 c.before.before ∙ rw (← c.before.no_edition.ensures, c.if6.false)
 
 past_7 : (c : tie.Else7) → Past 7 (rows (start_7 c))
 unfolding file_rows
@@ -100,7 +100,7 @@ no_edition_requires c κs = search rules
 
 returns_6 : tie.Need-returns-6
 unfolding file_rows
-returns_6 c = sym (past_5 c.before.before ∙ rw (← c.before.no_edition_lem.ensures, c.if6.true))
+returns_6 c = sym (past_5 c.before.before ∙ rw (← c.before.no_edition.ensures, c.if6.true))
 
 returns_7 : tie.Need-returns-7
 unfolding file_rows

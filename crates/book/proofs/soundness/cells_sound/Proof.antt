@@ -14,32 +14,32 @@ use Rattle.book.proofs.soundness.cells_sound.Statement.{statement}
 use Rattle.book.proofs.soundness.cells_sound.Tie as tie
 
 abbrev invariant_loop2 : tie.invariant-loop2
-invariant_loop2 open_year_lem marks parts lots shortages good₀ maker set cell mark family₀ good family =
-    (family ≤ families) × ((good ≡ true) × (all_below family (family_sound (book_of open_year_lem marks parts lots shortages) cell) ≡ true))
+invariant_loop2 open_year marks parts lots shortages good₀ maker set cell mark family₀ good family =
+    (family ≤ families) × ((good ≡ true) × (all_below family (family_sound (book_of open_year marks parts lots shortages) cell) ≡ true))
 
 abbrev decreases_loop2 : tie.decreases-loop2
-decreases_loop2 open_year_lem marks parts lots shortages good₀ maker set cell mark family₀ good family = families - family
+decreases_loop2 open_year marks parts lots shortages good₀ maker set cell mark family₀ good family = families - family
 
 abbrev invariant_loop3 : tie.invariant-loop3
-invariant_loop3 open_year_lem marks parts lots shortages good₀ maker set cell mark i₀ good i =
-    (i ≤ years) × ((good ≡ true) × (all_below i (year_sound (book_of open_year_lem marks parts lots shortages) maker set) ≡ true))
+invariant_loop3 open_year marks parts lots shortages good₀ maker set cell mark i₀ good i =
+    (i ≤ years) × ((good ≡ true) × (all_below i (year_sound (book_of open_year marks parts lots shortages) maker set) ≡ true))
 
 abbrev decreases_loop3 : tie.decreases-loop3
-decreases_loop3 open_year_lem marks parts lots shortages good₀ maker set cell mark i₀ good i = years - i
+decreases_loop3 open_year marks parts lots shortages good₀ maker set cell mark i₀ good i = years - i
 
 abbrev invariant_loop : tie.invariant-loop
-invariant_loop open_year_lem marks parts lots shortages good₀ maker set₀ good set =
-    (set ≤ sets) × ((good ≡ true) × (all_below set (cell_sound (book_of open_year_lem marks parts lots shortages) maker) ≡ true))
+invariant_loop open_year marks parts lots shortages good₀ maker set₀ good set =
+    (set ≤ sets) × ((good ≡ true) × (all_below set (cell_sound (book_of open_year marks parts lots shortages) maker) ≡ true))
 
 abbrev decreases_loop : tie.decreases-loop
-decreases_loop open_year_lem marks parts lots shortages good₀ maker set₀ good set = sets - set
+decreases_loop open_year marks parts lots shortages good₀ maker set₀ good set = sets - set
 
 abbrev invariant_walk : tie.invariant-walk
-invariant_walk open_year_lem marks parts lots shortages good₀ maker₀ good maker =
-    (maker ≤ makers) × ((good ≡ true) × (all_below maker (maker_sound (book_of open_year_lem marks parts lots shortages)) ≡ true))
+invariant_walk open_year marks parts lots shortages good₀ maker₀ good maker =
+    (maker ≤ makers) × ((good ≡ true) × (all_below maker (maker_sound (book_of open_year marks parts lots shortages)) ≡ true))
 
 abbrev decreases_walk : tie.decreases-walk
-decreases_walk open_year_lem marks parts lots shortages good₀ maker₀ good maker = makers - maker
+decreases_walk open_year marks parts lots shortages good₀ maker₀ good maker = makers - maker
 
 walk_holds :
     tie.Need-walk-init invariant_loop2 decreases_loop2 invariant_loop3 decreases_loop3 invariant_loop decreases_loop invariant_walk decreases_walk

@@ -56,7 +56,7 @@ whole :
     → read_book (take c.before.before.before.before.read-text.result.len c.before.before.before.before.read-text.new.1.0) ≡ v
     → BookComesTo v
 whole c =
-    comes_to room.first_bytes_lem c.before.before.before.text2.given
+    comes_to room.first_bytes c.before.before.before.text2.given
     (sym c.before.end-reading.ensures ∙ not-false c.before.end-reading.result c.if1.false) c.before.before.before.before.read-text.ensures
 
 returns_2 : tie.Need-returns-2

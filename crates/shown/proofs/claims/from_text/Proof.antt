@@ -5,7 +5,7 @@ use Rattle.shown.proofs.claims.from_text.Statement.{statement}
 use Rattle.shown.proofs.claims.from_text.Tie as tie
 
 returns : tie.Need-returns
-returns c = (refl, laws.from-text)
+returns c = (refl, laws.from_text)
 
 pub from_text_spec : {M : Type 1} → statement M
 from_text_spec = tie.close (tie.spec returns)

@@ -36,8 +36,8 @@ same_length c = search rules
 returns : tie.Need-returns
 returns c =
     let start = c.before.before.before.before.before.before.before.before in
-    let m : c.before.before.before.before.before.before.type_size.result ≡ nat_abs start.args.part =
-    c.before.before.before.before.before.before.type_size.ensures ∙ ap nat_abs (to_z-of_z start.ranges.part) in
+    let m : c.before.before.before.before.before.before.size-of.result ≡ nat_abs start.args.part =
+    c.before.before.before.before.before.before.size-of.ensures ∙ ap nat_abs (to_z-of_z start.ranges.part) in
     as_text
     (filled_zeros _ (_ ∷ _ ∷ []) 10 ∙ minus _ _ start.args.part m
     (read_below (pos 0) _ start.ranges.part c.before.before.before.before.before.if1.true))
@@ -49,8 +49,8 @@ same_length_2 c = search rules
 returns_2 : tie.Need-returns-2
 returns_2 c =
     let start = c.before.before.before.before.before.before.before.before in
-    let m : c.before.before.before.before.before.before.type_size.result ≡ nat_abs start.args.part =
-    c.before.before.before.before.before.before.type_size.ensures ∙ ap nat_abs (to_z-of_z start.ranges.part) in
+    let m : c.before.before.before.before.before.before.size-of.result ≡ nat_abs start.args.part =
+    c.before.before.before.before.before.before.size-of.ensures ∙ ap nat_abs (to_z-of_z start.ranges.part) in
     as_text
     (filled_zeros _ (_ ∷ _ ∷ []) 10 ∙ plus _ _ start.args.part m
     (read_below (pos 0) _ start.ranges.part c.before.before.before.before.before.if1.false))

@@ -6,7 +6,7 @@ use Rattle.text.proofs.claims.lines_in_order.Statement.{statement}
 use Rattle.text.proofs.claims.lines_in_order.Tie as tie
 
 returns : tie.Need-returns
-returns c = (refl, laws.each_entry, ranks.rank-orders)
+returns c = (refl, laws.each_entry, ranks.rank_orders)
 
 pub lines_in_order_spec : {M : Type 1} → statement M
 lines_in_order_spec = tie.close (tie.spec returns)

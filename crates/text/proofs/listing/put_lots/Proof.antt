@@ -7,11 +7,11 @@ use Rattle.text.proofs.listing.put_lots.Statement.{statement}
 use Rattle.text.proofs.listing.put_lots.Tie as tie
 
 abbrev invariant_loop : tie.invariant-loop
-invariant_loop out₀ at open_year_lem lots maker set w₀ i₀ out w i =
-    (i ≤ years) × Gathered (lot_line open_year_lem lots maker set) entry_room out₀ out at w i
+invariant_loop out₀ at open_year lots maker set w₀ i₀ out w i =
+    (i ≤ years) × Gathered (lot_line open_year lots maker set) entry_room out₀ out at w i
 
 abbrev decreases_loop : tie.decreases-loop
-decreases_loop out₀ at open_year_lem lots maker set w₀ i₀ out w i = years - i
+decreases_loop out₀ at open_year lots maker set w₀ i₀ out w i = years - i
 
 loop_holds : tie.Need-loop-init invariant_loop decreases_loop
 loop_holds c = (omega arith, none_yet)

@@ -8,11 +8,11 @@ use Rattle.text.proofs.listing.put_shortages.Statement.{statement}
 use Rattle.text.proofs.listing.put_shortages.Tie as tie
 
 abbrev invariant_loop : tie.invariant-loop
-invariant_loop out₀ at open_year_lem shortages maker set w₀ i₀ out w i =
-    (i ≤ years) × Gathered (shortage_line open_year_lem shortages maker set) entry_room out₀ out at w i
+invariant_loop out₀ at open_year shortages maker set w₀ i₀ out w i =
+    (i ≤ years) × Gathered (shortage_line open_year shortages maker set) entry_room out₀ out at w i
 
 abbrev decreases_loop : tie.decreases-loop
-decreases_loop out₀ at open_year_lem shortages maker set w₀ i₀ out w i = years - i
+decreases_loop out₀ at open_year shortages maker set w₀ i₀ out w i = years - i
 
 loop_holds : tie.Need-loop-init invariant_loop decreases_loop
 loop_holds c = (omega arith, none_yet)

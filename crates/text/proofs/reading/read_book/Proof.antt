@@ -17,13 +17,13 @@ returns_2 c =
     let is = c.before.before.before.before in
     c.refusing2.ensures
     ∙ not_sound _ _ is.before.before.text-book.ensures (not-false _ is.if1.false)
-    (denied c.before.before.is_sound_lem.ensures c.before.if2.true)
+    (denied c.before.before.is_sound.ensures c.before.if2.true)
 
 returns_3 : tie.Need-returns-3
 returns_3 c =
     let is = c.before.before.before in
     all_read _ _ is.before.before.text-book.ensures (not-false _ is.if1.false)
-    (granted c.before.is_sound_lem.ensures c.if2.false)
+    (granted c.before.is_sound.ensures c.if2.false)
 
 pub read_book_spec : {M : Type 1} → statement M
 read_book_spec =

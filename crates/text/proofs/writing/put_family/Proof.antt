@@ -32,7 +32,7 @@ returns_2 c =
     let s = filed.before.before.before in
     as_text
     (family_below_lem _ s.args.part _ _ (granted filed.before.has-bit.ensures filed.if1.false)
-    (below.before.type_size.ensures ∙ ap nat_abs (to_z-of_z s.ranges.part))
+    (below.before.size-of.ensures ∙ ap nat_abs (to_z-of_z s.ranges.part))
     (read_below (pos 0) _ s.ranges.part below.if2.true))
     c.before.before.fill.ensures
 
@@ -43,7 +43,7 @@ returns_3 c =
     let s = filed.before.before.before in
     as_text
     (family-above _ s.args.part _ _ (granted filed.before.has-bit.ensures filed.if1.false)
-    (above.before.type_size.ensures ∙ ap nat_abs (to_z-of_z s.ranges.part))
+    (above.before.size-of.ensures ∙ ap nat_abs (to_z-of_z s.ranges.part))
     (read_below (pos 0) _ s.ranges.part above.if2.false))
     c.before.before.fill2.ensures
 

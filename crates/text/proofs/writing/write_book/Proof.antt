@@ -24,7 +24,7 @@ verdict_is :
     (c : tie.After-writing-verdict)
     → c.writing-verdict.result
     ≡ first_refusal (writing_rows (sound (start c).args.book) (put c).put-book.result (length (start c).args.out.now))
-verdict_is c = rw (← c.before.is_sound_lem.ensures) c.writing-verdict.ensures
+verdict_is c = rw (← c.before.is_sound.ensures) c.writing-verdict.ensures
 
 length_is : (c : tie.After-put-book) → c.put-book.result ≡ length (book_text c.before.before.before.args.book)
 length_is c = omega (arith, c.put-book.ensures.end_is)

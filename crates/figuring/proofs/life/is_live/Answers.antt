@@ -1,0 +1,21 @@
+use native.Mathlib.Omega.{arith}
+use mathlib.Core.Path.{◌≡◌, sym}
+use mathlib.Core.Bool.{true}
+use Rattle.figuring.proofs.BoolLaws.{denied, granted, first_fails}
+use Rattle.figuring.specs.Life.{closed_year, live}
+use Rattle.figuring.proofs.LifeLaws.{closed_is, young}
+use Rattle.figuring.proofs.life.is_live.Goals as goal
+
+closed : (c : goal.Else-not-is_closed_year) → closed_year c.args.«open_year» c.args.vintage ≡ true
+closed c = granted c.is_closed_year.ensures c.if-not-is_closed_year.false-raw
+
+pub returns-then-not-is_closed_year : goal.returns-then-not-is_closed_year
+unfolding live
+returns-then-not-is_closed_year c = sym (first_fails _ (denied c.is_closed_year.ensures c.if-not-is_closed_year.true-raw))
+
+pub overflow_sub-result : goal.overflow_sub-result
+overflow_sub-result c = omega (arith, closed_is _ _ (closed c))
+
+pub returns : goal.returns
+unfolding live
+returns c = young _ _ 6 (closed c)

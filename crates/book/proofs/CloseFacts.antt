@@ -85,10 +85,10 @@ module _ (g : ℕ → ℤ) (h : (f : ℕ) → f < families → nat_abs (g f) ≤
   pub sum_fits : (n : ℕ) → n ≤ families → nat_abs (sum_below_ℤ n g) < 2 ^ 63
   sum_fits n l = omega (arith, sum_ℤ_small g n part_most (λ f k. h f (omega arith)))
 
-  pub sum_kept : (n : ℕ) {bits : ℕ} → bits ≡ of_z w64 (sum_below_ℤ n g) → n ≤ families → to_z w64 bits ≡ sum_below_ℤ n g
-  sum_kept n e l = rw e (kept (sum_below_ℤ n g) (sum_fits n l))
+  pub sum_kept : (n : ℕ) → n ≤ families → to_z w64 (of_z w64 (sum_below_ℤ n g)) ≡ sum_below_ℤ n g
+  sum_kept n l = kept (sum_below_ℤ n g) (sum_fits n l)
 
   pub sum_step :
-      (n : ℕ) {bits : ℕ}
-      → bits ≡ of_z w64 (sum_below_ℤ n g) → n < families → to_z w64 bits +ℤ to_z w64 (of_z w64 (g n)) ≡ sum_below_ℤ (n + 1) g
-  sum_step n e l = rw (sum_kept n e (omega arith), kept (g n) (omega (arith, h n l))) (sym (sum_ℤ_more g n))
+      (n : ℕ) {z : ℤ}
+      → z ≡ sum_below_ℤ n g → n < families → z +ℤ to_z w64 (of_z w64 (g n)) ≡ sum_below_ℤ (n + 1) g
+  sum_step n e l = rw (e, kept (g n) (omega (arith, h n l))) (sym (sum_ℤ_more g n))

@@ -32,10 +32,5 @@ pub mod Amendments
 pub mod LastFigures
 pub mod OwnStandards
 pub mod Restated
-pub mod InPlaceWalk
-pub mod TableWalk
-pub mod HandedBook
-pub mod LentWalk
-pub mod DispatchWalk
 pub mod TotalLaws
 pub mod RefusalLaws

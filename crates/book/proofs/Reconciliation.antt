@@ -2,7 +2,7 @@
 -- begins with. Any book agrees with the accounts that it opens.
 -- What an accepted call keeps comes from its record, `Lawful`. Nothing here looks into a call's rows, the figuring, the tests of
 -- soundness and life, or the limits; and no call is named but the application, of which demand 3 says more.
-use Prim.Native.Nat.{ℕ, ◌+◌}
+use Prim.Native.Nat.{ℕ}
 use mathlib.Core.Bool.{true}
 use mathlib.Core.List.{List, [], ◌∷◌, ◌++◌}
 use mathlib.Core.Path.{◌≡◌, refl, ap}

@@ -1,7 +1,6 @@
 -- An expired lot and an overdue shortage stay: a call moves only figures of live vintages and open shortages, and a close
 -- writes the open year's.
-use Prim.Native.Nat.{ℕ, ◌+◌, ◌≤◌}
-use mathlib.Core.Bool.{true}
+use Prim.Native.Nat.{ℕ}
 use mathlib.Core.List.{List, [], ◌∷◌}
 use mathlib.Core.Path.{◌≡◌, refl, ◌∙◌}
 use native.Mathlib.Omega.{arith}

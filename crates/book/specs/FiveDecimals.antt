@@ -2,7 +2,7 @@
 -- rules with document 01's figures of CF and parts, as they were before the card, stand beside those of now, and a
 -- session under the one beside the same calls, restated, under the other. `SameSessions` is the statement; the proofs are
 -- in proofs/Restated.antt.
-use Rattle.std.specs.Prelude.{ℕ, Bool, true, false, ◌&&◌, List, [], ◌∷◌, ◌++◌, map, ◌≡◌, leb, ℤ, pos, nat_abs, get_or}
+use Rattle.std.specs.Prelude.{ℕ, Bool, true, ◌&&◌, List, [], ◌∷◌, ◌++◌, map, ◌≡◌, leb, ℤ, pos, nat_abs, get_or}
 use Rattle.figuring.specs.Tables.{Table}
 use Rattle.figuring.specs.FiveDecimals.{old_cf, old_unit, old_part_most, restated_cf, restated_part}
 use Rattle.book.specs.Filings.{with_cf}
@@ -15,7 +15,6 @@ use Rattle.book.specs.Postings.{fresh_book, with_families, closed_in}
 use Rattle.book.specs.Rules.{Request, head_rows, table_rows, own_rows, done, outcome, posted}
 use Rattle.book.specs.declared.ledger.Book.{Book}
 use Rattle.book.specs.declared.kinds.Call.{Call}
-use Rattle.book.specs.declared.kinds.Filing.{Filing}
 use Rattle.book.specs.declared.answers.Answer.{Answer}
 use Rattle.book.specs.declared.answers.Answer.TheVariants.{Refused, Filed, Closed, Left}
 use Rattle.book.specs.declared.answers.Posted.{Posted}

@@ -6,7 +6,7 @@ use crate::ledger::Book;
 use figuring::units::{Mg, Part};
 
 // One variant for each number of the refusal list, in its order.
-#[derive(Drop)]
+#[derive(Clone, Copy)]
 pub enum Refusal {
     NotAForm,
     UnsoundBook,
@@ -32,7 +32,7 @@ pub enum Refusal {
     NotABook,
 }
 
-#[derive(Drop)]
+#[derive(Clone, Copy)]
 pub enum Answer {
     Refused(Refusal),
     // The part, and how many families of the cell are now filed.
@@ -44,14 +44,14 @@ pub enum Answer {
 }
 
 // An answer, and the book after it.
-#[derive(Drop)]
+#[derive(Clone, Copy)]
 pub struct Posted {
     pub answer: Answer,
     pub book: Book,
 }
 
 // What a call's ordered table of refusals says.
-#[derive(Drop)]
+#[derive(Clone, Copy)]
 pub enum Verdict {
     Accepted,
     Refuse(Refusal),

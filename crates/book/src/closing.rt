@@ -71,7 +71,7 @@ fn close_verdict(open_year: u64, year: u64) -> Verdict
 }
 
 // The lots and the shortages with those of the year closed, and how many cells closed short.
-#[derive(Drop)]
+#[derive(Clone, Copy)]
 struct Nets {
     lots: [u64; 768],
     shortages: [u64; 768],

@@ -1,6 +1,6 @@
 // The calls of document 01, with the arguments other than the book.
 // A filing; or, where it amends, an amendment, which has the same fields (card 6).
-#[derive(Drop)]
+#[derive(Clone, Copy)]
 pub struct Filing {
     pub amends: bool,
     pub maker: u64,
@@ -15,7 +15,7 @@ pub struct Filing {
     pub life: u64,
 }
 
-#[derive(Drop)]
+#[derive(Clone, Copy)]
 pub struct Trade {
     pub from: u64,
     pub to: u64,
@@ -24,7 +24,7 @@ pub struct Trade {
     pub mg: u64,
 }
 
-#[derive(Drop)]
+#[derive(Clone, Copy)]
 pub struct Application {
     pub maker: u64,
     pub set: u64,
@@ -33,7 +33,7 @@ pub struct Application {
     pub mg: u64,
 }
 
-#[derive(Drop)]
+#[derive(Clone, Copy)]
 pub struct Retirement {
     pub maker: u64,
     pub set: u64,
@@ -41,7 +41,7 @@ pub struct Retirement {
     pub mg: u64,
 }
 
-#[derive(Drop)]
+#[derive(Clone, Copy)]
 pub enum Call {
     File(Filing),
     Close(u64),

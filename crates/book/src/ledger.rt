@@ -20,7 +20,7 @@ pub const YEARS: u64 = 24;
 // The open year once all years are closed.
 pub const ALL_CLOSED: u64 = 2038;
 
-#[derive(Drop)]
+#[derive(Clone, Copy)]
 pub struct Book {
     pub open_year: u64,
     // For each cell a filing mark, one bit a family.

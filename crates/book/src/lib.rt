@@ -1,4 +1,6 @@
 // The book layer of document 01: the book, its postings by value and in place, and what a listing shows of it.
+#![tactic(auto)]
+
 pub mod answers;
 pub mod applying;
 pub mod claims;

@@ -9,7 +9,7 @@ use figuring::units::Mg;
 use figuring::years::{FIRST_YEAR, LAST_YEAR};
 
 // A lot above 0, live or expired; or that there is none to show.
-#[derive(Drop)]
+#[derive(Clone, Copy)]
 pub enum LotEntry {
     Live(Mg),
     Expired(Mg),
@@ -17,7 +17,7 @@ pub enum LotEntry {
 }
 
 // A shortage above 0, open or overdue; or that there is none to show.
-#[derive(Drop)]
+#[derive(Clone, Copy)]
 pub enum ShortageEntry {
     Open(Mg),
     Overdue(Mg),

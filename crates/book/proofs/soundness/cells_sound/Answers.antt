@@ -1,0 +1,91 @@
+use borrow.Author.Rules.{rules}
+use mathlib.Core.Path.{refl, sym, ◌∙◌}
+use Rattle.figuring.proofs.BoolLaws.{denied, granted, and_intro}
+use Rattle.book.specs.Sizes.{makers, sets, families, years}
+use Rattle.figuring.specs.Below.{all_below}
+use Rattle.book.specs.Soundness.{cell_sound, maker_sound, cells_sound}
+use Rattle.figuring.proofs.BelowLaws.{all_more, all_done}
+use Rattle.book.proofs.PlaceLaws.{heard_family, heard_year, family_fault, year_fault}
+use Rattle.book.proofs.soundness.cells_sound.Goals as goal
+
+pub walk-init : goal.walk-init
+unfolding all_below
+walk-init c = (search rules, (search rules, refl))
+
+pub loop-set-init : goal.loop-set-init
+unfolding all_below
+loop-set-init c = (search rules, (search rules, refl))
+
+pub loop-family-init : goal.loop-family-init
+unfolding all_below
+loop-family-init c = (search rules, (search rules, refl))
+
+pub loop-family-preserved : goal.loop-family-preserved
+loop-family-preserved c = (
+  search rules,
+  (
+    search rules,
+    all_more _ _ c.loop-family.invariant.1.1
+        (granted (heard_family _ _ _ c.part-1.given c.part_sound.ensures) c.if-not-part_sound.false-raw),
+  ),
+)
+
+pub loop-i-init : goal.loop-i-init
+unfolding all_below
+loop-i-init c = (search rules, (search rules, refl))
+
+pub loop-i-preserved : goal.loop-i-preserved
+loop-i-preserved c = (
+  search rules,
+  (
+    search rules,
+    all_more _ _ c.loop-i.invariant.1.1
+        (granted (heard_year _ _ _ _ c.figures_sound.ensures) c.if-not-figures_sound.false-raw),
+  ),
+)
+
+pub loop-set-preserved : goal.loop-set-preserved
+unfolding cell_sound
+loop-set-preserved c =
+    let l = c.loop-i in
+    let k = c.loop-family in (
+      search rules,
+      (
+        search rules,
+        all_more _ _ c.loop-set.invariant.1.1
+            (and_intro
+            (all_done _ families k.family k.invariant.0 c.loop-family-test.false k.invariant.1.1)
+            (all_done _ years l.i l.invariant.0 c.loop-i-test.false l.invariant.1.1)),
+      ),
+    )
+
+pub walk-preserved : goal.walk-preserved
+unfolding maker_sound
+walk-preserved c =
+    let l = c.loop-set in (
+      search rules,
+      (
+        search rules,
+        all_more _ _ c.walk.invariant.1.1
+            (all_done _ sets l.set l.invariant.0 c.loop-set-test.false l.invariant.1.1),
+      ),
+    )
+
+pub returns-after-walk : goal.returns-after-walk
+unfolding cells_sound
+returns-after-walk c =
+    let w = c.walk in
+    w.invariant.1.0 ∙ sym (all_done _ makers w.maker w.invariant.0 c.walk-test.false w.invariant.1.1)
+
+pub returns-then-not-part_sound : goal.returns-then-not-part_sound
+returns-then-not-part_sound c =
+    sym
+    (family_fault _ c.walk.maker c.loop-set.set c.loop-family.family (search rules) (search rules)
+    (search rules)
+    (denied (heard_family _ _ _ c.part-1.given c.part_sound.ensures) c.if-not-part_sound.true-raw))
+
+pub returns-then-not-figures_sound : goal.returns-then-not-figures_sound
+returns-then-not-figures_sound c =
+    sym
+    (year_fault _ c.walk.maker c.loop-set.set c.loop-i.i (search rules) (search rules)
+    (search rules) (denied (heard_year _ _ _ _ c.figures_sound.ensures) c.if-not-figures_sound.true-raw))

@@ -28,14 +28,14 @@ module _ {A : Type 0} where
 
   -- what is among y ∷ ys is y, or is among ys
   pub data Stands (x y : A) (ys others : List A) : Type 0 where
-    is-first : x ≡ y → others ≡ ys → Stands x y ys others
+    is_first : x ≡ y → others ≡ ys → Stands x y ys others
     in_rest : (q : Among x ys) → others ≡ y ∷ without q → Stands x y ys others
 
   pub stands : {x y : A} {ys : List A} (p : Among x (y ∷ ys)) → Stands x y ys (without p)
   stands {x} {y} {ys} p = go p.before p.after p.here
     where
       go : (bs cs : List A) → y ∷ ys ≡ bs ++ x ∷ cs → Stands x y ys (bs ++ cs)
-      go [] cs e = is-first (sym (head-eq_of_cons-eq e)) (sym (tail-eq_of_cons-eq e))
+      go [] cs e = is_first (sym (head-eq_of_cons-eq e)) (sym (tail-eq_of_cons-eq e))
       go (b ∷ bs) cs e =
           in_rest (record { before = bs; after = cs; here = tail-eq_of_cons-eq e })
           (ap (λ (z : A). z ∷ (bs ++ cs)) (sym (head-eq_of_cons-eq e)))
@@ -68,9 +68,9 @@ module _ {A : Type 0} where
       go :
           Stands x z zs (without p) → Stands y z zs (without q)
           → ((r : Among x zs) (s : Among y zs) → Two r s) → Two p q
-      go (is-first e h) (is-first d k) ih = one (e ∙ sym d) (h ∙ sym k)
-      go (is-first e h) (in_rest s k) ih = two (by e k (first z (without s))) (by refl h s) refl
-      go (in_rest r h) (is-first d k) ih = two (by refl k r) (by d h (first z (without r))) refl
+      go (is_first e h) (is_first d k) ih = one (e ∙ sym d) (h ∙ sym k)
+      go (is_first e h) (in_rest s k) ih = two (by e k (first z (without s))) (by refl h s) refl
+      go (in_rest r h) (is_first d k) ih = two (by refl k r) (by d h (first z (without r))) refl
       go (in_rest r h) (in_rest s k) ih = deeper (ih r s)
         where
           deeper : Two r s → Two p q

@@ -117,17 +117,17 @@ close_agrees t b a y h g =
       families = families_clear h.families;
       lots =
           tied_net h.lots (earned_by b) (earned_at a) g.from g.upto
-          (λ k i e. ap earned_of (net-same k i e)) (λ k i e. (s.ahead k i (omega arith)).0);
+          (λ k i e. ap earned_of (net_same k i e)) (λ k i e. (s.ahead k i (omega arith)).0);
       shortages =
           tied_net h.shortages (short_by b) (shortfall_at a) g.from g.upto
-          (λ k i e. ap shortfall_of (net-same k i e)) (λ k i e. (s.ahead k i (omega arith)).1);
+          (λ k i e. ap shortfall_of (net_same k i e)) (λ k i e. (s.ahead k i (omega arith)).1);
     })
   where
     -- what the accounts' sum nets to is what the cell nets to
-    net-same :
+    net_same :
         (k : Key) → In k → k.year ≡ b.open_year
         → net_of engine_unit (sum_at a k) ≡ net_of engine_unit (cell_sum b.parts (cell k.maker k.set))
-    net-same k i e = ap (net_of engine_unit) (families_sum h.families k i e)
+    net_same k i e = ap (net_of engine_unit) (families_sum h.families k i e)
 
 pub close_lawful : (t : Table) (b : Book) (y : ℕ) → Closable b y → Lawful t b (Call.Close y)
 unfolding done close_done is_accepted

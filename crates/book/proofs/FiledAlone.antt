@@ -32,7 +32,7 @@ use Rattle.book.proofs.TableLaws.{alike, same_after, by_verdict}
 use Rattle.book.proofs.FileFacts.{Fileable, fileable}
 use Rattle.book.proofs.FilingLaws.{Here, part_here, part_there, mark_here, mark_there, still_sound}
 use Rattle.book.proofs.KeptSound.{keeps_sized}
-use Rattle.book.proofs.AmongLaws.{first, later, none_among, Stands, is-first, in_rest, stands}
+use Rattle.book.proofs.AmongLaws.{first, later, none_among, Stands, is_first, in_rest, stands}
 
 -- ---- one filing put to a book: what it changes, and what it leaves
 abbrev next : Book → Lodged → Book
@@ -201,7 +201,7 @@ module _ (b : Book) (f : Lodged) (fs : List Lodged) (z : Sized b) (n : NoTwoAlik
   each_filed :
       (after : Book) → MadeBy (next b f) fs after → (g : Lodged) (p : Among g (f ∷ fs)) → takes b g ≡ true
       → Stands g f fs (without p) → Holds after g
-  each_filed after rest g p a (is-first e h) =
+  each_filed after rest g p a (is_first e h) =
       subst (Holds after) (sym e) (first_filed after rest (subst (λ (x : Lodged). takes b x ≡ true) e a))
   each_filed after rest g p a (in_rest q h) = rest.filed g (taken_after g q a)
 

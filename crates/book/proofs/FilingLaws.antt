@@ -57,34 +57,34 @@ stored_sized b c f z h =
 
 -- a part within the bound, stored in a cell of the book
 module _ (b : Book) (c f : ℕ) (z : ℤ) (sized : Sized b) (hc : c < cells) (hf : f < families) where
-  abbrev markBefore : ℕ
-  markBefore = get_or b.marks c 0
+  abbrev mark_before : ℕ
+  mark_before = get_or b.marks c 0
 
-  abbrev marksAfter : List ℕ
-  marksAfter = store b.marks c (with_mark markBefore f)
+  abbrev marks_after : List ℕ
+  marks_after = store b.marks c (with_mark mark_before f)
 
-  abbrev partsAfter : List ℤ
-  partsAfter = store b.parts (c * families + f) z
+  abbrev parts_after : List ℤ
+  parts_after = store b.parts (c * families + f) z
 
-  pub part_here : (d g : ℕ) → Here c f d g → part_at partsAfter d g ≡ z
+  pub part_here : (d g : ℕ) → Here c f d g → part_at parts_after d g ≡ z
   part_here d g w = rw (w.0, w.1) (get_or-set_same b.parts (c * families + f) z (pos 0) (omega arith))
 
-  pub part_there : (d g : ℕ) → g < families → (Here c f d g → ⊥) → part_at partsAfter d g ≡ part_at b.parts d g
+  pub part_there : (d g : ℕ) → g < families → (Here c f d g → ⊥) → part_at parts_after d g ≡ part_at b.parts d g
   part_there d g hg n =
       get_or-set_other b.parts (c * families + f) (d * families + g) z (pos 0) (λ e. n (omega arith, omega arith))
 
-  mark_of : get_or marksAfter c 0 ≡ with_mark markBefore f
-  mark_of = get_or-set_same b.marks c (with_mark markBefore f) 0 (omega arith)
+  mark_of : get_or marks_after c 0 ≡ with_mark mark_before f
+  mark_of = get_or-set_same b.marks c (with_mark mark_before f) 0 (omega arith)
 
-  pub mark_here : (d g : ℕ) → Here c f d g → marked (get_or marksAfter d 0) g ≡ true
-  mark_here d g w = rw (w.0, w.1, mark_of) (marked_same markBefore f)
+  pub mark_here : (d g : ℕ) → Here c f d g → marked (get_or marks_after d 0) g ≡ true
+  mark_here d g w = rw (w.0, w.1, mark_of) (marked_same mark_before f)
 
-  pub mark_there : (d g : ℕ) → (Here c f d g → ⊥) → marked (get_or marksAfter d 0) g ≡ marked (get_or b.marks d 0) g
+  pub mark_there : (d g : ℕ) → (Here c f d g → ⊥) → marked (get_or marks_after d 0) g ≡ marked (get_or b.marks d 0) g
   mark_there d g n = go (ℕ_discrete d c)
     where
-      go : Dec (d ≡ c) → marked (get_or marksAfter d 0) g ≡ marked (get_or b.marks d 0) g
-      go (yes p) = rw (p, mark_of) (marked_other markBefore f g (λ q. n (p, q)))
-      go (no p) = rw (get_or-set_other b.marks c d (with_mark markBefore f) 0 p)
+      go : Dec (d ≡ c) → marked (get_or marks_after d 0) g ≡ marked (get_or b.marks d 0) g
+      go (yes p) = rw (p, mark_of) (marked_other mark_before f g (λ q. n (p, q)))
+      go (no p) = rw (get_or-set_other b.marks c d (with_mark mark_before f) 0 p)
 
   pub stored_sound : Sound b → nat_abs z ≤ part_most → Sound (stored b c f z).book
   unfolding stored
@@ -99,13 +99,13 @@ module _ (b : Book) (c f : ℕ) (z : ℤ) (sized : Sized b) (hc : c < cells) (hf
         total = s.total;
       }
     where
-      within : (d g : ℕ) → d < cells → g < families → Dec (Here c f d g) → nat_abs (part_at partsAfter d g) ≤ part_most
+      within : (d g : ℕ) → d < cells → g < families → Dec (Here c f d g) → nat_abs (part_at parts_after d g) ≤ part_most
       within d g hd hg (yes w) = rw (part_here d g w) fits
       within d g hd hg (no n) = rw (part_there d g hg n) (s.bounded d g hd hg)
 
       nothing :
-          (d g : ℕ) → d < cells → g < families → marked (get_or marksAfter d 0) g ≡ false
-          → Dec (Here c f d g) → part_at partsAfter d g ≡ pos 0
+          (d g : ℕ) → d < cells → g < families → marked (get_or marks_after d 0) g ≡ false
+          → Dec (Here c f d g) → part_at parts_after d g ≡ pos 0
       nothing d g hd hg m (yes w) = absurd (true≢false (sym (mark_here d g w) ∙ m))
       nothing d g hd hg m (no n) = part_there d g hg n ∙ s.unmarked d g hd hg (sym (mark_there d g n) ∙ m)
 

@@ -10,7 +10,7 @@ use Rattle.book.specs.declared.ledger.Book.{Book}
 use Rattle.book.specs.declared.answers.Answer.{Answer}
 use Rattle.book.specs.declared.answers.Answer.TheVariants.{Refused, Filed, Closed, Left}
 use Rattle.book.proofs.KeptSound.{sized_after}
-use Rattle.book.proofs.AmongLaws.{none_among, Stands, is-first, in_rest, stands}
+use Rattle.book.proofs.AmongLaws.{none_among, Stands, is_first, in_rest, stands}
 use Rattle.book.proofs.AmongLaws.{in_left, both_without, back, every_order}
 use Rattle.book.proofs.FiledAlone.{gets_alone, made_by}
 use Rattle.book.proofs.OneBook.{one_book}
@@ -55,11 +55,11 @@ one_more f fs new n g h p q e = go (stands p)
   where
     -- both stand in the rest, or h is f
     rest : (r : Among g fs) (s : Among h (f ∷ without r)) → Stands h f (without r) (without s) → ⊥
-    rest r s (is-first d w) = new g r (sym (ap named_by d) ∙ sym e)
+    rest r s (is_first d w) = new g r (sym (ap named_by d) ∙ sym e)
     rest r s (in_rest t w) = n g h r t e
 
     go : Stands g f fs (without p) → ⊥
-    go (is-first d w) = new h (subst (Among h) w q) (sym (ap named_by d) ∙ e)
+    go (is_first d w) = new h (subst (Among h) w q) (sym (ap named_by d) ∙ e)
     go (in_rest r w) = let s = subst (Among h) w q in rest r s (stands s)
 
 -- an answer of a filing with another count

@@ -17,7 +17,7 @@ use Rattle.book.specs.Orders.{without}
 use Rattle.book.specs.FilingOrder.{Family, Lodged, named_by, lodged, SameOf, Taken, MadeBy}
 use Rattle.book.specs.declared.ledger.Book.{Book}
 use Rattle.book.proofs.MarkLaws.{same_mark}
-use Rattle.book.proofs.AmongLaws.{first, later, none_among, Stands, is-first, in_rest, stands}
+use Rattle.book.proofs.AmongLaws.{first, later, none_among, Stands, is_first, in_rest, stands}
 
 family_same : (j k : Family) → Dec (j ≡ k)
 family_same j k = go (ℕ_discrete j.maker k.maker) (ℕ_discrete j.set k.set) (ℕ_discrete j.number k.number)
@@ -41,7 +41,7 @@ named b (f ∷ fs) k = go (Bool-discrete (is_accepted (lodged b f).answer) true)
     neither m n h = at (stands h.1.among)
       where
         at : Stands h.0 f fs (without h.1.among) → ⊥
-        at (is-first e w) = m (subst (Taken b (f ∷ fs)) e h.1) (sym (ap named_by e) ∙ h.2)
+        at (is_first e w) = m (subst (Taken b (f ∷ fs)) e h.1) (sym (ap named_by e) ∙ h.2)
         at (in_rest q w) = n (h.0, record { among = q; accepted = h.1.accepted }, h.2)
 
     go :

@@ -83,8 +83,8 @@ module _ (b : Book) where
     within_bound : (c f : ℕ) → c < cells → f < families → nat_abs (restated_part (part_at b.parts c f)) ≤ part_most
     within_bound c f hc hf = rw (← part_at_lem b.parts c f) (s.bounded c f hc hf)
 
-    was-sound : Sound b
-    was-sound =
+    was_sound : Sound b
+    was_sound =
         record {
           low = s.low;
           high = s.high;
@@ -96,8 +96,8 @@ module _ (b : Book) where
           total = s.total;
         }
 
-    was-bounded : (i : ℕ) → i < all_parts → OldBound i ≡ true
-    was-bounded i h =
+    was_bounded : (i : ℕ) → i < all_parts → OldBound i ≡ true
+    was_bounded i h =
         let c = i / families in
         let f = i % families in
         let e : c * families + f ≡ i = omega arith in
@@ -126,7 +126,7 @@ module _ (b : Book) where
       same_test (sound (restated_book b)) (old_sound b)
       (λ e.
       let s = sound_is (restated_book b) e in
-      and_intro (is_sound b (was-sound s)) (all_of OldBound all_parts (was-bounded s)))
+      and_intro (is_sound b (was_sound s)) (all_of OldBound all_parts (was_bounded s)))
       (λ e.
       let h = both (sound b) (all_below all_parts OldBound) e in
       is_sound (restated_book b) (stays_sound_lem (sound_is b h.0) (λ i l. all_at OldBound all_parts i l h.1)))

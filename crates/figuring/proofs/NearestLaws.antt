@@ -132,11 +132,11 @@ module _ (unit : ℕ) (u : HasHalf unit) where
   mirror z m f =
       record {
         within = rw (mirror_distance z m) f.within;
-        even = λ h. abs-even (f.even (sym (mirror_distance z m) ∙ h));
+        even = λ h. abs_even (f.even (sym (mirror_distance z m) ∙ h));
       }
     where
-      abs-even : nat_abs m % 2 ≡ 0 → nat_abs (neg_ℤ m) % 2 ≡ 0
-      abs-even e = rw (abs_neg m) e
+      abs_even : nat_abs m % 2 ≡ 0 → nat_abs (neg_ℤ m) % 2 ≡ 0
+      abs_even e = rw (abs_neg m) e
 
   -- ---- any sum
   pub only_one : (sum m m' : ℤ) → IsNearest unit sum m → IsNearest unit sum m' → m ≡ m'

@@ -34,10 +34,10 @@ module _ (t : Table) (input : List ℕ) where
         demands = demands t fresh_book input fresh_sized fresh_sound;
         shows = fresh_screen.shows ∙ ap (λ (o : Opening). texts (answers t fresh_book input) ++ statement first_year o ps) fresh_at_zero;
         tells = fresh_tells;
-        behind = λ x m. posted-behind x (fresh_tells.behind x m);
+        behind = λ x m. posted_behind x (fresh_tells.behind x m);
       }
     where
-      posted-behind : (x : Item) {X : Type 0} → Opens zero_opening x ⊎ X → X
-      posted-behind (lot k n) (inl l) = absurd (omega arith)
-      posted-behind (short k n) (inl l) = absurd (omega arith)
-      posted-behind x (inr o) = o
+      posted_behind : (x : Item) {X : Type 0} → Opens zero_opening x ⊎ X → X
+      posted_behind (lot k n) (inl l) = absurd (omega arith)
+      posted_behind (short k n) (inl l) = absurd (omega arith)
+      posted_behind x (inr o) = o

@@ -91,20 +91,20 @@ module _ (t : Table) (b : Book) (input : List ℕ) where
     abbrev A : Accounts
     A = accounts_by (opening_of b) (postings t b input)
 
-    year-is : (final_book t b input).open_year ≡ year_by b.open_year (postings t b input)
-    year-is = ap (λ (c : Book). c.open_year) by_calls.book ∙ year_same b (calls t input)
+    year_is : (final_book t b input).open_year ≡ year_by b.open_year (postings t b input)
+    year_is = ap (λ (c : Book). c.open_year) by_calls.book ∙ year_same b (calls t input)
 
-    by-postings : (k : Key) → In k → Reconciled (final_book t b input) A k
-    by-postings k i = subst (λ (a : Accounts). Reconciled (final_book t b input) a k) (accounts_are b (calls t input)) (reconciled k i)
+    by_postings : (k : Key) → In k → Reconciled (final_book t b input) A k
+    by_postings k i = subst (λ (a : Accounts). Reconciled (final_book t b input) a k) (accounts_are b (calls t input)) (reconciled k i)
 
     listed : listing (final_book t b input) ≡ statement b.open_year (opening_of b) (postings t b input)
     listed =
-        listing_is (final_book t b input) A (sound_is (final_book t b input) is_sound) by-postings
-        ∙ ap (λ (y : ℕ). item_lines y (items A)) year-is
+        listing_is (final_book t b input) A (sound_is (final_book t b input) is_sound) by_postings
+        ∙ ap (λ (y : ℕ). item_lines y (items A)) year_is
 
     exact : (k : Key) → In k → Exact A k
     exact k i =
-        record { lot = omega (arith, (by-postings k i).lot); shortage = omega (arith, (by-postings k i).shortage) }
+        record { lot = omega (arith, (by_postings k i).lot); shortage = omega (arith, (by_postings k i).shortage) }
 
     says : (x : Item) → Among x (items A) → Says A x
     says = each_says A exact
@@ -114,11 +114,11 @@ module _ (t : Table) (b : Book) (input : List ℕ) where
     small (lot k n) h =
         let w = sound_is (final_book t b input) is_sound in
         let i = h.1.0 in
-        (omega arith, (omega arith, (omega arith, (omega (arith, h.1.1, (by-postings k i).lot, sound_lot (final_book t b input) w k i), tt))))
+        (omega arith, (omega arith, (omega arith, (omega (arith, h.1.1, (by_postings k i).lot, sound_lot (final_book t b input) w k i), tt))))
     small (short k n) h =
         let w = sound_is (final_book t b input) is_sound in
         let i = h.1.0 in
-        (omega arith, (omega arith, (omega arith, (omega (arith, h.1.1, (by-postings k i).shortage, w.shortage k i), tt))))
+        (omega arith, (omega arith, (omega arith, (omega (arith, h.1.1, (by_postings k i).shortage, w.shortage k i), tt))))
 
     exactly : (x : Item) → Among x (items A) ↔ Says A x
     exactly x = (says x, says_each A exact x)

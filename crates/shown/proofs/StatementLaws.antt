@@ -147,18 +147,18 @@ closed_year_lem Y y n zeros h = go (dec_le Y y)
 
 module _ (b : Book) (a : Accounts) (w : Sound b) (r : (k : Key) → In k → Reconciled b a k) where
   module _ (m s : ℕ) (hm : m < makers) (hs : s < sets) where
-    lot-line : (i : ℕ) → i < years → lot_line b.open_year b.lots m s i ≡ item_lines b.open_year (lot_item a m s i)
+    lot_line_lem : (i : ℕ) → i < years → lot_line b.open_year b.lots m s i ≡ item_lines b.open_year (lot_item a m s i)
     unfolding lot_line lot_entry
-    lot-line i hi =
+    lot_line_lem i hi =
         let k : Key = key m s (first_year + i) in
         let j : In k = omega arith in
         let e : figure_at b.lots k ≡ lot_by a k = omega (arith, (r k j).lot) in
         lot_shown b.open_year m s (first_year + i) hm hs (omega arith) (omega arith) (figure_at b.lots k) (closed_year_lem _ _ _ (λ l. (w.ahead k j l).0))
         ∙ ap (λ (n : ℕ). item_lines b.open_year (above0 n (lot k n))) e
 
-    shortage-line : (i : ℕ) → i < years → shortage_line b.open_year b.shortages m s i ≡ item_lines b.open_year (short_item a m s i)
+    shortage_line_lem : (i : ℕ) → i < years → shortage_line b.open_year b.shortages m s i ≡ item_lines b.open_year (short_item a m s i)
     unfolding shortage_line shortage_entry
-    shortage-line i hi =
+    shortage_line_lem i hi =
         let k : Key = key m s (first_year + i) in
         let j : In k = omega arith in
         let e : figure_at b.shortages k ≡ shortage_by a k = omega (arith, (r k j).shortage) in
@@ -168,7 +168,7 @@ module _ (b : Book) (a : Accounts) (w : Sound b) (r : (k : Key) → In k → Rec
     cell_same : cell_text b m s ≡ item_lines b.open_year (cell_items a m s)
     unfolding cell_text cell_items
     cell_same =
-        ap₂ ◌++◌ (gather_lines _ years _ (lot_item a m s) lot-line) (gather_lines _ years _ (short_item a m s) shortage-line)
+        ap₂ ◌++◌ (gather_lines _ years _ (lot_item a m s) lot_line_lem) (gather_lines _ years _ (short_item a m s) shortage_line_lem)
         ∙ sym (item_lines_append b.open_year (gather years (lot_item a m s)) (gather years (short_item a m s)))
 
   pub listing_is : listing b ≡ item_lines b.open_year (items a)

@@ -204,6 +204,7 @@ first_digit (suc k) n h l = go (ltb n 10) refl (first_digit k (n / 10))
 numeral_proper : (most n : ℕ) → 0 < most → most ≤ 18 → n < 10 ^ most → proper most (numeral n) ≡ true
 unfolding numeral_of
 numeral_proper most zero o m h = rw (le-leb 1 most o)
+numeral_proper zero (suc n) o m h = absurd (omega arith)
 numeral_proper (suc most) (suc n) o m h =
     let f =
     first_digit 20 (suc n) (omega arith)

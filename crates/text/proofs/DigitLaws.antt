@@ -117,9 +117,9 @@ module _ (most : ℕ) (s : List ℕ) where
   none_long h = rw (lt-ltb 0 (length (leading s)) (omega arith), lt-leb (length (leading s)) most h)
 
   module _ (k : length (leading s) ≤ most) where
-    pub none-zero : 1 < length (leading s) → get_or s 0 0 ≡ 48 → number most s ≡ Number.Nothing
+    pub none_zero : 1 < length (leading s) → get_or s 0 0 ≡ 48 → number most s ≡ Number.Nothing
     unfolding number
-    none-zero h e =
+    none_zero h e =
         rw (
           lt-ltb 0 (length (leading s)) (omega arith),
           le-leb (length (leading s)) most k,
@@ -127,15 +127,15 @@ module _ (most : ℕ) (s : List ℕ) where
           eq-eqb _ 48 (lead_get s 0 (omega arith) ∙ e),
         )
 
-    pub one-digit : length (leading s) ≡ 1 → number most s ≡ Number.Read (value (leading s)) 1
+    pub one_digit : length (leading s) ≡ 1 → number most s ≡ Number.Read (value (leading s)) 1
     unfolding number
-    one-digit h = rw (le-leb (length (leading s)) most k, h)
+    one_digit h = rw (le-leb (length (leading s)) most k, h)
 
-    pub more-digits :
+    pub more_digits :
         1 < length (leading s) → (get_or s 0 0 ≡ 48 → ⊥)
         → number most s ≡ Number.Read (value (leading s)) (length (leading s))
     unfolding number
-    more-digits h e =
+    more_digits h e =
         rw (
           lt-ltb 0 (length (leading s)) (omega arith),
           le-leb (length (leading s)) most k,

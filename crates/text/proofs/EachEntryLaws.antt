@@ -1,9 +1,8 @@
 -- Every entry of a book, by its place; and that the entries are just what the book has, in the order of the lines.
-use Prim.Native.Nat.{ℕ, zero, suc, ◌+◌, ◌-◌, ◌*◌, ◌/◌, ◌%◌, ◌≤◌, ◌<◌}
+use Prim.Native.Nat.{ℕ, suc, ◌+◌, ◌-◌, ◌*◌, ◌/◌, ◌%◌, ◌<◌}
 use native.Mathlib.Omega.{arith}
 use native.Mathlib.Decide.{dec_lt}
 use mathlib.Core.Bool.{Bool, true, false}
-use mathlib.Core.Logic.{◌↔◌}
 use mathlib.Core.Path.{◌≡◌, refl, sym, ap, subst, ◌∙◌}
 use mathlib.Core.List.{List, [], ◌∷◌, ◌++◌}
 use lib.Dec.{ltb}
@@ -12,15 +11,14 @@ use lib.IntN.{ℤ, pos}
 use borrow.Author.Tests.{lt-ltb, ltb-true}
 use Rattle.figuring.specs.Years.{first_year}
 use Rattle.book.specs.Sizes.{sets, families, years, places, all_parts}
-use Rattle.book.specs.Ledger.{Key, In, key, cell, place, figure_at, marked, part_at}
+use Rattle.book.specs.Ledger.{In, key, cell, place, figure_at, marked}
 use Rattle.book.specs.Orders.{Among}
 use Rattle.book.specs.declared.ledger.Book.{Book}
 use Rattle.book.proofs.AmongLaws.{first, in_left, in_right}
 use Rattle.text.specs.declared.entries.Entry.{Entry}
 use Rattle.text.specs.Gather.{gather}
 use Rattle.text.specs.Entries.{entry_if, filed_at, family_at, mg_at, entries, in_book, rank, all_entries}
-use Rattle.text.specs.BookOrder.{ordering, lesser}
-use Rattle.text.specs.EachEntry.{FamilyIn, Says, Rises, EachEntry}
+use Rattle.text.specs.EachEntry.{Says, Rises, EachEntry}
 use Rattle.text.proofs.GatherLaws.{in_gather}
 use Rattle.text.proofs.EntryOrderLaws.{Rising, rising_among, Has, nothing, one, gather_rises}
 use Rattle.text.proofs.EntryFacts.{in_family, in_figure}
@@ -48,38 +46,38 @@ module _ (P : Entry → Type 0) where
   module _ (b : Book) (family : (i : ℕ) → i < all_parts → filed_at b.marks i ≡ true → P (family_of b i))
       (lot : (i : ℕ) → i < places → 0 < get_or b.lots i 0 → P (figure_of Entry.Lot b.lots i))
       (shortage : (i : ℕ) → i < places → 0 < get_or b.shortages i 0 → P (figure_of Entry.Shortage b.shortages i)) where
-    lot-has : (i : ℕ) → i < places → Has P (look b (all_parts + i)) (all_parts + i)
+    lot_has : (i : ℕ) → i < places → Has P (look b (all_parts + i)) (all_parts + i)
     unfolding rank
-    lot-has i h = rw (look_lot b i h) (figure_has Entry.Lot b.lots i (all_parts + i) (lot i h) (omega arith))
+    lot_has i h = rw (look_lot b i h) (figure_has Entry.Lot b.lots i (all_parts + i) (lot i h) (omega arith))
 
-    shortage-has : (i : ℕ) → i < places → Has P (look b (all_parts + (places + i))) (all_parts + (places + i))
+    shortage_has : (i : ℕ) → i < places → Has P (look b (all_parts + (places + i))) (all_parts + (places + i))
     unfolding rank
-    shortage-has i h =
+    shortage_has i h =
         rw (look_shortage b i)
         (figure_has Entry.Shortage b.shortages i (all_parts + (places + i)) (shortage i h) (omega arith))
 
-    family-has : (i : ℕ) → i < all_parts → Has P (look b i) i
+    family_has : (i : ℕ) → i < all_parts → Has P (look b i) i
     unfolding rank family_at
-    family-has i h = rw (look_family b i h) (go (filed_at b.marks i) refl)
+    family_has i h = rw (look_family b i h) (go (filed_at b.marks i) refl)
       where
         go : (t : Bool) → filed_at b.marks i ≡ t → Has P (entry_if t (family_of b i)) i
         go true e = one _ refl (family i h e) (omega arith)
         go false e = nothing refl
 
-    pub has-each : (r : ℕ) → r < all_entries → Has P (look b r) r
-    has-each r h = go (dec_lt r all_parts) (dec_lt r (all_parts + places))
+    pub has_each : (r : ℕ) → r < all_entries → Has P (look b r) r
+    has_each r h = go (dec_lt r all_parts) (dec_lt r (all_parts + places))
       where
         go : Dec (r < all_parts) → Dec (r < all_parts + places) → Has P (look b r) r
-        go (yes p) q = family-has r p
+        go (yes p) q = family_has r p
         go (no p) (yes q) =
             let e : all_parts + (r - all_parts) ≡ r = omega arith in
-            rw e at (lot-has (r - all_parts) (omega arith))
+            rw e at (lot_has (r - all_parts) (omega arith))
         go (no p) (no q) =
             let e : all_parts + (places + (r - (all_parts + places))) ≡ r = omega arith in
-            rw e at (shortage-has (r - (all_parts + places)) (omega arith))
+            rw e at (shortage_has (r - (all_parts + places)) (omega arith))
 
-    pub each-rises : Rising P all_entries 0 (entries b)
-    each-rises = rw (entries_are b) (gather_rises P (look b) all_entries has-each)
+    pub each_rises : Rising P all_entries 0 (entries b)
+    each_rises = rw (entries_are b) (gather_rises P (look b) all_entries has_each)
 
 -- ---- the entries are just what the book has
 module _ (b : Book) where
@@ -105,7 +103,7 @@ module _ (b : Book) where
 
   said : Rising (Says b) all_entries 0 (entries b)
   said =
-      each-rises (Says b) b family_said
+      each_rises (Says b) b family_said
       (λ i h p. let f = figure_said b.lots i h in (f.0, (p, f.1)))
       (λ i h p. let f = figure_said b.shortages i h in (f.0, (p, f.1)))
 

@@ -6,12 +6,12 @@ use native.Mathlib.Omega.{arith}
 use lib.ListN.{length}
 use Rattle.figuring.specs.Grid.{grid_years}
 use Rattle.figuring.specs.Years.{first_year}
-use Rattle.figuring.specs.Tables.{Table, no_row, row_fits}
+use Rattle.figuring.specs.Tables.{Table, no_row}
 use Rattle.book.specs.declared.answers.Refusal.{Refusal}
 use Rattle.book.specs.declared.answers.Refusal.TheVariants.{NotATable, UnfitTable}
 use Rattle.text.specs.Lines.{lines_of}
 use Rattle.text.specs.Loads.{refused}
-use Rattle.text.specs.TableText.{row_in, rows_from, table_of, Right, last_row, Faults}
+use Rattle.text.specs.TableText.{rows_from, table_of, Right, last_row, Faults}
 
 -- what the lines after right ones are refused by, all are
 past :

@@ -35,8 +35,8 @@ module _ {p ns l out : List ℕ} {at k w i : ℕ} (half : Put p ns l out at k w 
       unfolding filled
       step = rw (drop-cons p i 0 here, eq-eqb _ hash is-hash, first_byte ns k, drop-drop 1 k ns, add-one k)
 
-      pub number-room : w + length (numeral (get_or ns k 0)) ≤ at + length (filled p ns)
-      number-room = rw (half.rest, step) (simp length-append (omega (arith, half.w_is)))
+      pub number_room : w + length (numeral (get_or ns k 0)) ≤ at + length (filled p ns)
+      number_room = rw (half.rest, step) (simp length-append (omega (arith, half.w_is)))
 
       pub place_here : k < most_figures
       unfolding hashes
@@ -45,10 +45,10 @@ module _ {p ns l out : List ℕ} {at k w i : ℕ} (half : Put p ns l out at k w 
           rw (drop-cons p i 0 here, eq-eqb _ hash is-hash) in
           omega (arith, half.room)
 
-      pub put-number : Put p ns l (overwritten out w (numeral (get_or ns k 0))) at (k + 1)
+      pub put_number : Put p ns l (overwritten out w (numeral (get_or ns k 0))) at (k + 1)
           (w + length (numeral (get_or ns k 0))) (i + 1)
       unfolding hashes
-      put-number =
+      put_number =
           let e : hashes (drop i p) ≡ suc (hashes (drop (suc i) p)) =
           rw (drop-cons p i 0 here, eq-eqb _ hash is-hash) in
           record {
@@ -61,12 +61,12 @@ module _ {p ns l out : List ℕ} {at k w i : ℕ} (half : Put p ns l out at k w 
           }
 
     module _ (other : get_or p i 0 ≡ hash → ⊥) where
-      step-byte : filled (drop i p) (drop k ns) ≡ get_or p i 0 ∷ filled (drop (suc i) p) (drop k ns)
+      step_byte : filled (drop i p) (drop k ns) ≡ get_or p i 0 ∷ filled (drop (suc i) p) (drop k ns)
       unfolding filled
-      step-byte = rw (drop-cons p i 0 here, ne_eqb _ hash other)
+      step_byte = rw (drop-cons p i 0 here, ne_eqb _ hash other)
 
-      pub byte-room : w < at + length (filled p ns)
-      byte-room = rw (half.rest, step-byte) (simp length-append (omega (arith, half.w_is)))
+      pub byte_room : w < at + length (filled p ns)
+      byte_room = rw (half.rest, step_byte) (simp length-append (omega (arith, half.w_is)))
 
       pub put_byte : Put p ns l (set out w (get_or p i 0)) at k (w + 1) (i + 1)
       unfolding hashes
@@ -78,7 +78,7 @@ module _ {p ns l out : List ℕ} {at k w i : ℕ} (half : Put p ns l out at k w 
             done = half.done ++ (get_or p i 0 ∷ []);
             out_is = rw (half.out_is, half.w_is) (overwritten_one half.done l at (get_or p i 0));
             w_is = rw length-append (omega (arith, half.w_is));
-            rest = rw (half.rest, step-byte, add-one i, append_assoc);
+            rest = rw (half.rest, step_byte, add-one i, append_assoc);
           }
 
   pub same_long : length out ≡ length l

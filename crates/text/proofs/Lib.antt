@@ -35,7 +35,4 @@ pub mod RankLaws
 pub mod BookRoomLaws
 pub mod WritingLaws
 pub mod ReadingLaws
-pub mod ReaderWalk
-pub mod ReadInWalk
-pub mod LentSlice
 pub mod ExampleLaws

@@ -56,18 +56,18 @@ module _ (o : ℕ) (l : List ℕ) (m s i : ℕ) where
   shortage_stands e h = as_text (ap (shortage_text m s (first_year + i)) e) h
 
   module _ (hm : m < makers) (hs : s < sets) (hi : i < years) where
-    pub lot-length : length (lot_line o l m s i) ≤ entry_room
+    pub lot_length : length (lot_line o l m s i) ≤ entry_room
     unfolding lot_line
-    lot-length = go (lot_entry o l m s (first_year + i))
+    lot_length = go (lot_entry o l m s (first_year + i))
       where
         go : (e : LotEntry) → length (lot_text m s (first_year + i) e) ≤ entry_room
         go (LotEntry.Live mg) = entry_length _ _ _ _ _ (omega arith) (omega arith) (omega arith) tt
         go (LotEntry.Expired mg) = entry_length _ _ _ _ _ (omega arith) (omega arith) (omega arith) tt
         go LotEntry.NoLot = omega arith
 
-    pub shortage-length : length (shortage_line o l m s i) ≤ entry_room
+    pub shortage_length : length (shortage_line o l m s i) ≤ entry_room
     unfolding shortage_line
-    shortage-length = go (shortage_entry o l m s (first_year + i))
+    shortage_length = go (shortage_entry o l m s (first_year + i))
       where
         go : (e : ShortageEntry) → length (shortage_text m s (first_year + i) e) ≤ entry_room
         go (ShortageEntry.Open mg) = entry_length _ _ _ _ _ (omega arith) (omega arith) (omega arith) tt
@@ -108,7 +108,7 @@ module _ (b : Book) (m : ℕ) (hm : m < makers) where
   pub lots_length :
       (s : ℕ) → s < sets → length (gather years (lot_line b.open_year b.lots m s)) ≤ years * entry_room
   lots_length s hs =
-      gather_length (lot_line b.open_year b.lots m s) entry_room years (λ i hi. lot-length _ _ m s i hm hs hi)
+      gather_length (lot_line b.open_year b.lots m s) entry_room years (λ i hi. lot_length _ _ m s i hm hs hi)
 
   pub cell_length : (s : ℕ) → s < sets → length (cell_text b m s) ≤ years * entry_room + years * entry_room
   unfolding cell_text
@@ -118,7 +118,7 @@ module _ (b : Book) (m : ℕ) (hm : m < makers) where
         arith,
         lots_length s hs,
         gather_length (shortage_line b.open_year b.shortages m s) entry_room years
-            (λ i hi. shortage-length _ _ m s i hm hs hi),
+            (λ i hi. shortage_length _ _ m s i hm hs hi),
       ))
 
   pub maker_length : length (maker_text b m) ≤ sets * (years * entry_room + years * entry_room)

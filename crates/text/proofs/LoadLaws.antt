@@ -71,8 +71,8 @@ module _ (y : ℕ) (l : List ℕ) where
       pub other_year : (get_or f.n 0 0 ≡ y → ⊥) → row_in y l ≡ none
       other_year e = dated ∙ rw (ne_eqb (get_or f.n 0 0) y e)
 
-      pub a-row : get_or f.n 0 0 ≡ y → row_in y l ≡ some (entries_in f.n)
-      a-row e = dated ∙ rw (eq-eqb (get_or f.n 0 0) y e)
+      pub a_row : get_or f.n 0 0 ≡ y → row_in y l ≡ some (entries_in f.n)
+      a_row e = dated ∙ rw (eq-eqb (get_or f.n 0 0) y e)
 
 -- a row as a value
 none_in : (o : Option (List ℕ)) {r : YearRow} → r ≡ year_row o → r.is ≡ false → o ≡ none
@@ -121,8 +121,8 @@ start text =
 
 module _ {text : List ℕ} {grid : Table} {before : List ℕ} {at i : ℕ} (h : Loaded text grid before at i) where
   module _ (more : i < grid_years) {end : ℕ} (ends : end ≡ line_end text at) where
-    next-is : drop (min (end + 1) (length text)) text ≡ after_line (drop at text)
-    next-is = go (dec_le (end + 1) (length text))
+    next_is : drop (min (end + 1) (length text)) text ≡ after_line (drop at text)
+    next_is = go (dec_le (end + 1) (length text))
       where
         go : Dec (end + 1 ≤ length text) → drop (min (end + 1) (length text)) text ≡ after_line (drop at text)
         go (yes l) = let e : min (end + 1) (length text) ≡ end + 1 = omega arith in rw e (after_at text at ends)
@@ -140,7 +140,7 @@ module _ {text : List ℕ} {grid : Table} {before : List ℕ} {at i : ℕ} (h : 
         h.rest
         ∙ ap (λ (n : ℕ). with_rows (take i grid) (rows_from n (first_year + i) before (lines_of (drop at text)))) q
         ∙ ap (with_rows (take i grid)) (onward (grid_years - (i + 1)) (first_year + i) before (drop at text))
-        ∙ rw (y, next-is, ← line_at text at ends, e)
+        ∙ rw (y, next_is, ← line_at text at ends, e)
 
     module _ {r : YearRow} (read : r ≡ year_row (row_in (first_year + i) (take (end - at) (drop at text)))) where
       pub no_line : r.is ≡ false → table_of text ≡ refused NotATable
@@ -172,9 +172,9 @@ module _ {text : List ℕ} {grid : Table} {before : List ℕ} {at i : ℕ} (h : 
         let z : grid_years - i ≡ 0 = omega arith in
         h.rest ∙ rw (z, take_all i grid (omega (arith, h.long)))
 
-    pub line-more : at < length text → table_of text ≡ refused NotATable
-    line-more l = left ∙ rw (drop-cons text at 0 l, too_many (first_year + i) before (get_or text at 0) (drop (suc at) text))
+    pub line_more : at < length text → table_of text ≡ refused NotATable
+    line_more l = left ∙ rw (drop-cons text at 0 l, too_many (first_year + i) before (get_or text at 0) (drop (suc at) text))
 
-    pub whole-table : length text ≤ at → table_of text ≡ accepted grid
+    pub whole_table : length text ≤ at → table_of text ≡ accepted grid
     unfolding rows_from lines_from
-    whole-table l = left ∙ rw (drop_of_length-le text l, append-nil grid)
+    whole_table l = left ∙ rw (drop_of_length-le text l, append-nil grid)

@@ -66,9 +66,9 @@ module _ {most : ℕ} {p s n : List ℕ} {k j i : ℕ} (half : Half most p s n k
 
   module _ (here : i < length p) where
     module _ (is-hash : get_or p i 0 ≡ hash) where
-      pub room-here : k < most_figures
+      pub room_here : k < most_figures
       unfolding hashes
-      room-here =
+      room_here =
           let e : hashes (drop i p) ≡ suc (hashes (drop (suc i) p)) =
           rw (drop-cons p i 0 here, eq-eqb _ hash is-hash) in
           omega (arith, half.room)
@@ -77,10 +77,10 @@ module _ {most : ℕ} {p s n : List ℕ} {k j i : ℕ} (half : Half most p s n k
       unfolding fit
       no_number e = stops (rw (drop-cons p i 0 here, eq-eqb _ hash is-hash, e))
 
-      pub a-number :
+      pub a_number :
           (v d : ℕ) → number most (drop j s) ≡ Number.Read v d → Half most p s (set n k v) (k + 1) (j + d) (i + 1)
       unfolding fit hashes
-      a-number v d e =
+      a_number v d e =
           let q : fit most (drop i p) (drop j s) ≡ prepended (v ∷ []) (fit most (drop (suc i) p) (drop d (drop j s))) =
           rw (drop-cons p i 0 here, eq-eqb _ hash is-hash, e) in
           let l : hashes (drop i p) ≡ suc (hashes (drop (suc i) p)) =
@@ -100,9 +100,9 @@ module _ {most : ℕ} {p s n : List ℕ} {k j i : ℕ} (half : Half most p s n k
           }
 
     module _ (other : get_or p i 0 ≡ hash → ⊥) where
-      pub at-end : j ≡ length s → unfit ≡ figures most p s
+      pub at_end : j ≡ length s → unfit ≡ figures most p s
       unfolding fit
-      at-end e = stops (rw (drop-cons p i 0 here, ne_eqb _ hash other, drop_of_length-le s {i = j} (omega arith)))
+      at_end e = stops (rw (drop-cons p i 0 here, ne_eqb _ hash other, drop_of_length-le s {i = j} (omega arith)))
 
       pub other_byte : j < length s → (get_or s j 0 ≡ get_or p i 0 → ⊥) → unfit ≡ figures most p s
       unfolding fit
@@ -125,9 +125,9 @@ module _ {most : ℕ} {p s n : List ℕ} {k j i : ℕ} (half : Half most p s n k
           }
 
   module _ (over : length p ≤ i) where
-    pub more-text : j < length s → unfit ≡ figures most p s
+    pub more_text : j < length s → unfit ≡ figures most p s
     unfolding fit
-    more-text l = stops (rw (drop_of_length-le p over, drop-cons s j 0 l))
+    more_text l = stops (rw (drop_of_length-le p over, drop-cons s j 0 l))
 
     pub whole : length s ≤ j → record { fits = true; n = n } ≡ figures most p s
     unfolding fit figures

@@ -3,7 +3,7 @@ use Prim.Native.Nat.{ℕ, suc, ◌+◌, ◌-◌, ◌*◌, ◌^◌, ◌≤◌, �
 use native.Mathlib.Numerals.{add-one}
 use native.Mathlib.Omega.{arith}
 use mathlib.Core.Bool.{Bool, true, false, ◌&&◌, true≢false, false≢true}
-use mathlib.Core.Logic.{◌⊎◌, ⊎_elim}
+use mathlib.Core.Logic.{⊎_elim}
 use mathlib.Core.Option.{Option, none, some}
 use mathlib.Core.Path.{◌≡◌, refl, sym, ap, subst, ◌∙◌}
 use mathlib.Core.List.{List, [], ◌∷◌, ◌++◌}
@@ -126,15 +126,15 @@ module _ (t : List ℕ) (at : ℕ) where
       unfolding next_entry
       read_at = rw (← ends, lt-ltb end (length t) fed, line_at t at ends)
 
-      pub nothing-there : r ≡ LineEntry.NoEntry → NextEntry.Nothing ≡ next_entry t at
-      nothing-there e = sym (read_at ∙ go (entry_of (take (end - at) (drop at t))) (sym read ∙ e))
+      pub nothing_there : r ≡ LineEntry.NoEntry → NextEntry.Nothing ≡ next_entry t at
+      nothing_there e = sym (read_at ∙ go (entry_of (take (end - at) (drop at t))) (sym read ∙ e))
         where
           go : (o : Option Entry) → line_entry o ≡ LineEntry.NoEntry → next_after true o (end + 1) ≡ NextEntry.Nothing
           go none q = refl
           go (some x) q = let z : ◌≡◌ {A = ℕ} 0 1 = cc in absurd (omega arith)
 
-      pub one-there : {e : Entry} → r ≡ LineEntry.One e → NextEntry.At e (end + 1) ≡ next_entry t at
-      one-there {e} h = sym (read_at ∙ go (entry_of (take (end - at) (drop at t))) (sym read ∙ h))
+      pub one_there : {e : Entry} → r ≡ LineEntry.One e → NextEntry.At e (end + 1) ≡ next_entry t at
+      one_there {e} h = sym (read_at ∙ go (entry_of (take (end - at) (drop at t))) (sym read ∙ h))
         where
           go : (o : Option Entry) → line_entry o ≡ LineEntry.One e → next_after true o (end + 1) ≡ NextEntry.At e (end + 1)
           go none q = let z : ◌≡◌ {A = ℕ} 0 1 = cc in absurd (omega arith)
@@ -194,9 +194,9 @@ module _ (t : List ℕ) (at : ℕ) (h : at < length t) where
     last_none : (least : ℕ) (b : Book) → entered_text least b s ≡ none
     last_none least b = rw (last_unfed s some_left p)
 
-    last-next : next_entry t at ≡ NextEntry.Nothing
+    last_next : next_entry t at ≡ NextEntry.Nothing
     unfolding next_entry
-    last-next =
+    last_next =
         rw (le-ltb (line_end t at) (length t) (omega (arith, ap length p.0, length-drop at t)))
 
   -- a line with one
@@ -204,13 +204,13 @@ module _ (t : List ℕ) (at : ℕ) (h : at < length t) where
     long : length s ≡ length (first_line s) + suc (length (after_line s))
     long = ap length p ∙ length-append (first_line s) (line_feed ∷ after_line s)
 
-    fed-next : next_entry t at ≡ next_after true found (line_end t at + 1)
+    fed_next : next_entry t at ≡ next_after true found (line_end t at + 1)
     unfolding next_entry
-    fed-next = rw (lt-ltb (line_end t at) (length t) (omega (arith, long, length-drop at t)))
+    fed_next = rw (lt-ltb (line_end t at) (length t) (omega (arith, long, length-drop at t)))
 
-    fed-rest : (least : ℕ) (b : Book) → entered_text least b s ≡ onward least b (after_line s) found
+    fed_rest : (least : ℕ) (b : Book) → entered_text least b s ≡ onward least b (after_line s) found
     unfolding entered
-    fed-rest least b =
+    fed_rest least b =
         rw (fed_alike s p, first_of s some_left)
         (later (all_ended (after_line s)) found (λ e. in_book e && leb least (rank e))
         (λ e. entered (suc (rank e)) (enter b e) (lines_of (after_line s))))
@@ -219,7 +219,7 @@ module _ (t : List ℕ) (at : ℕ) (h : at < length t) where
       (least : ℕ) (b : Book) {r : NextEntry} → r ≡ next_entry t at → r ≡ NextEntry.Nothing
       → entered_text least b s ≡ none
   no_more least b q e =
-      ⊎_elim (λ p. last_none p least b) (λ p. fed-rest p least b ∙ go found (sym (fed-next p) ∙ sym q ∙ e)) (parted s)
+      ⊎_elim (λ p. last_none p least b) (λ p. fed_rest p least b ∙ go found (sym (fed_next p) ∙ sym q ∙ e)) (parted s)
     where
       go :
           (o : Option Entry) → next_after true o (line_end t at + 1) ≡ NextEntry.Nothing
@@ -230,21 +230,21 @@ module _ (t : List ℕ) (at : ℕ) (h : at < length t) where
   pub goes_on :
       {r : NextEntry} {e : Entry} {next : ℕ} → r ≡ next_entry t at → r ≡ NextEntry.At e next → GoesOn t at e next
   goes_on {r} {e} {next} q w =
-      ⊎_elim (λ p. none-there (sym (last-next p) ∙ sym q ∙ w))
-      (λ p. go p found refl (sym (fed-next p) ∙ sym q ∙ w)) (parted s)
+      ⊎_elim (λ p. none_there (sym (last_next p) ∙ sym q ∙ w))
+      (λ p. go p found refl (sym (fed_next p) ∙ sym q ∙ w)) (parted s)
     where
-      none-there : {X : Type 0} → NextEntry.Nothing ≡ NextEntry.At e next → X
-      none-there e = let z : ◌≡◌ {A = ℕ} 0 1 = cc in absurd (omega arith)
+      none_there : {X : Type 0} → NextEntry.Nothing ≡ NextEntry.At e next → X
+      none_there e = let z : ◌≡◌ {A = ℕ} 0 1 = cc in absurd (omega arith)
 
       go :
           (p : s ≡ first_line s ++ line_feed ∷ after_line s) (o : Option Entry) → found ≡ o
           → next_after true o (line_end t at + 1) ≡ NextEntry.At e next → GoesOn t at e next
-      go p none f w = none-there w
+      go p none f w = none_there w
       go p (some x) f w =
           let y : x ≡ e = cc in
           let n : line_end t at + 1 ≡ next = cc in
           record {
-            rest = λ least b. fed-rest p least b ∙ rw (f, y, ← n, after_at t at refl);
+            rest = λ least b. fed_rest p least b ∙ rw (f, y, ← n, after_at t at refl);
             further = omega arith;
             within = omega (arith, long p, length-drop at t);
           }
@@ -302,8 +302,8 @@ module _ (t : List ℕ) {end : ℕ} (ends : end ≡ line_end t 0) where
           go false true o = refl
           go false false o = refl
 
-      pub not-open : f.fits ≡ false → read ≡ none
-      not-open h = opens ∙ rw h
+      pub not_open : f.fits ≡ false → read ≡ none
+      not_open h = opens ∙ rw h
 
       pub lines_after : f.fits ≡ true → read ≡ entered_text 0 (empty_at (figure f.n 0)) (drop (end + 1) t)
       lines_after h = opens ∙ rw h

@@ -1,19 +1,16 @@
 -- A sound book written and read is the same book, an accepted text written again has the same bytes, and any text that is
 -- no book's gets 22.
-use Prim.Native.Nat.{ℕ, suc, ◌+◌, ◌-◌, ◌/◌, ◌%◌, ◌<◌}
+use Prim.Native.Nat.{ℕ, suc, ◌/◌, ◌%◌, ◌<◌}
 use native.Mathlib.Omega.{arith}
-use native.Mathlib.Decide.{dec_lt}
 use mathlib.Core.Bool.{Bool, true, false, cond}
 use mathlib.Core.Logic.{◌⊎◌, inl, inr}
 use mathlib.Core.Path.{◌≡◌, refl, sym, ap, subst, ◌∙◌}
 use mathlib.Core.Option.{Option, none, some}
 use mathlib.Core.List.{List, [], ◌∷◌}
-use lib.Dec.{ltb}
 use lib.ListN.{get_or}
 use lib.IntN.{ℤ, pos, negsuc}
-use borrow.Author.Tests.{le-leb, ltb-true}
-use Rattle.figuring.specs.Years.{first_year}
-use Rattle.book.specs.Sizes.{sets, families, years, places, all_parts}
+use borrow.Author.Tests.{le-leb}
+use Rattle.book.specs.Sizes.{sets, families, all_parts}
 use Rattle.book.specs.Soundness.{sound}
 use Rattle.book.specs.Companions.{Sized}
 use Rattle.book.specs.declared.ledger.Book.{Book}
@@ -26,17 +23,17 @@ use Rattle.text.specs.Pattern.{figures}
 use Rattle.text.specs.Lines.{lines_from, lines_of}
 use Rattle.text.specs.Rendered.{Small}
 use Rattle.text.specs.Loads.{Read, accepted, refused}
-use Rattle.text.specs.Entries.{entry_if, filed_at, family_at, mg_at, entries, rank, all_entries, enter, empty_at}
+use Rattle.text.specs.Entries.{entries, rank, all_entries, enter, empty_at}
 use Rattle.text.specs.BookText.{entry_figures, entry_line, entry_lines, open_line, book_text}
 use Rattle.text.specs.BookReading.{book_digits, only_if, entered, book_in, ends_in_feed, all_ended, judged, read_book}
 use Rattle.text.specs.RoundTrip.{Marks64, Writable, ReadSound, RoundTrip, Exact}
 use Rattle.text.proofs.SessionLaws.{lines}
 use Rattle.text.proofs.FeedLaws.{feed_then}
 use Rattle.text.proofs.EntryLineLaws.{line_read, one_line, open_read, open_one}
-use Rattle.text.proofs.EachEntryLaws.{family_of, has-each}
+use Rattle.text.proofs.EachEntryLaws.{family_of, has_each}
 use Rattle.text.proofs.EntryOrderLaws.{Rising, Has, nothing, one, enter_all, gather_rises, collected_entered}
 use Rattle.text.proofs.EntryFacts.{Inside, is_inside}
-use Rattle.text.proofs.EntryLaws.{look, look_family, look_lot, look_shortage, entries_are}
+use Rattle.text.proofs.EntryLaws.{look, entries_are}
 use Rattle.text.proofs.EntryLaws.{Neat, empty_neat, empty_look, stores}
 use Rattle.text.proofs.SameBookLaws.{same_entries}
 use Rattle.text.proofs.AcceptedTextLaws.{Fine, Lowℤ, open_year_lem, text_is}
@@ -78,7 +75,7 @@ module _ (b : Book) (s : Writable b) where
 
   has : (r : ℕ) → r < all_entries → Has Fine (look b r) r
   has =
-      has-each Fine b (λ i h e. family_fine i h)
+      has_each Fine b (λ i h e. family_fine i h)
       (λ i h p. ((omega arith, p), (omega arith, (omega arith, (omega arith, (s.lots i, tt))))))
       (λ i h p. ((omega arith, p), (omega arith, (omega arith, (omega arith, (s.shortages i, tt))))))
 

@@ -70,25 +70,25 @@ shortage_is : (l : List ℕ) (i : ℕ) → mg_in (mg_at Entry.Shortage l i) ≡ 
 shortage_is = figure_is Entry.Shortage (λ m s y mg. refl)
 
 module _ (marks : List ℕ) (parts : List ℤ) (i : ℕ) where
-  abbrev its-part : ℤ
-  its-part = get_or parts i (pos 0)
+  abbrev its_part : ℤ
+  its_part = get_or parts i (pos 0)
 
-  abbrev its-entry : Entry
-  its-entry = Entry.Family (i / families / sets) (i / families % sets) (i % families) its-part
+  abbrev its_entry : Entry
+  its_entry = Entry.Family (i / families / sets) (i / families % sets) (i % families) its_part
 
   mark_is : is_in (family_at marks parts i) ≡ filed_at marks i
   unfolding family_at
   mark_is = go (filed_at marks i)
     where
-      go : (v : Bool) → is_in (entry_if v its-entry) ≡ v
+      go : (v : Bool) → is_in (entry_if v its_entry) ≡ v
       go true = refl
       go false = refl
 
-  part_is : (filed_at marks i ≡ false → its-part ≡ pos 0) → part_in (family_at marks parts i) ≡ its-part
+  part_is : (filed_at marks i ≡ false → its_part ≡ pos 0) → part_in (family_at marks parts i) ≡ its_part
   unfolding family_at
   part_is h = go (filed_at marks i) h
     where
-      go : (v : Bool) → (v ≡ false → its-part ≡ pos 0) → part_in (entry_if v its-entry) ≡ its-part
+      go : (v : Bool) → (v ≡ false → its_part ≡ pos 0) → part_in (entry_if v its_entry) ≡ its_part
       go true h = refl
       go false h = sym (h refl)
 

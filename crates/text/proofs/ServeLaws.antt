@@ -68,9 +68,9 @@ module _ {before : List ℕ} {count : ℕ} {chunk : List ℕ} {start : ℕ} {hel
         }
 
     module _ (other : get_or chunk taken 0 ≡ line_feed → ⊥) where
-      pub byte-held :
+      pub byte_held :
           len < most_held → Reading before count chunk start (set held len (get_or chunk taken 0)) (len + 1) (taken + 1)
-      byte-held l =
+      byte_held l =
           let k : ltb (length (take len held)) most_held ≡ true =
           lt-ltb (length (take len held)) most_held (omega (arith, held_count)) in
           record {
@@ -89,8 +89,8 @@ module _ {before : List ℕ} {count : ℕ} {chunk : List ℕ} {start : ℕ} {hel
                 );
           }
 
-      pub byte-lost : most_held ≤ len → Reading before count chunk start held len (taken + 1)
-      byte-lost l =
+      pub byte_lost : most_held ≤ len → Reading before count chunk start held len (taken + 1)
+      byte_lost l =
           let k : ltb (length (take len held)) most_held ≡ false =
           le-ltb (length (take len held)) most_held (omega (arith, held_count)) in
           record {

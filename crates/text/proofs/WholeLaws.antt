@@ -102,16 +102,16 @@ module _ (t : Table) (b : Book) (input : List ℕ) where
       stands : Stands taken.said 0 out f.at out₁
       stands = record { end_is = answers.at_is ∙ omega arith; out_is = answers.out_is }
 
-      pub last-room : f.at + answer_room ≤ length out₁
-      last-room = omega (arith, stands.end_is, same_long stands, said_length t (opened b) input)
+      pub last_room : f.at + answer_room ≤ length out₁
+      last_room = omega (arith, stands.end_is, same_long stands, said_length t (opened b) input)
 
       left : at_desk f.desk ≡ written taken
       left = rw (answers.book_is, answers.held_is)
 
       module _ {s : Step} {out₂ : List ℕ} (ended : (s.book ≡ (ends t (at_desk f.desk)).book)
           × Stands (ends t (at_desk f.desk)).said f.at out₁ s.at out₂) where
-        pub listing-room : s.at + listing_room ≤ length out₂
-        listing-room =
+        pub listing_room_lem : s.at + listing_room ≤ length out₂
+        listing_room_lem =
             omega (
               arith,
               stands.end_is,

@@ -26,8 +26,8 @@ shortage_most_lem = lit≤ tt
 lots_most_lem : Low lots_most
 lots_most_lem = lit≤ tt
 
-all_closed : Low all_closed
-all_closed = lit≤ tt
+all_closed_lem : Low all_closed
+all_closed_lem = lit≤ tt
 
 -- the figures of an array that are bounded key by key are low, and so is what stands past it
 module _ (l : List ℕ) (long : length l ≡ places) (most : ℕ) (low : Low most)
@@ -62,7 +62,7 @@ module _ (b : Book) (n : Sized b) (w : Marks64 b) (s : Sound b) where
         unmarked = λ i h u.
             let e : i / families * families + i % families ≡ i = omega arith in
             rw e at (s.unmarked (i / families) (i % families) (omega arith) (omega arith) u);
-        year = omega (arith, s.high, all_closed);
+        year = omega (arith, s.high, all_closed_lem);
         parts = λ i. low_part i (dec_lt i all_parts);
         lots = low_figure b.lots n.lots lots_most lots_most_lem (sound_lot b s);
         shortages = low_figure b.shortages n.shortages shortage_most shortage_most_lem s.shortage;

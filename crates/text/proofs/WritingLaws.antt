@@ -63,13 +63,13 @@ module _ (mark : ℕ) (z : ℤ) (i : ℕ) where
     abbrev entry : ℤ → Entry
     entry z = Entry.Family (i / families / sets) (i / families % sets) (i % families) z
 
-    one-family : ended (entry_line (entry z)) ≡ entry_lines (family_entry mark z i)
+    one_family : ended (entry_line (entry z)) ≡ entry_lines (family_entry mark z i)
     unfolding entry_lines
-    one-family = rw h
+    one_family = rw h
 
     pub family_below_lem : lt_z z (pos 0) ≡ true → put (ended family_below.pattern) ≡ entry_lines (family_entry mark z i)
     family_below_lem l =
-        with_zeros (ended family_below.pattern) _ _ _ _ ∙ filled_ended family_below.pattern _ ∙ go z e l ∙ one-family
+        with_zeros (ended family_below.pattern) _ _ _ _ ∙ filled_ended family_below.pattern _ ∙ go z e l ∙ one_family
       where
         go :
             (z : ℤ) → n ≡ nat_abs z → lt_z z (pos 0) ≡ true
@@ -78,9 +78,9 @@ module _ (mark : ℕ) (z : ℤ) (i : ℕ) where
         go (pos k) e l = absurd (omega (arith, ltb-true k 0 l))
         go (negsuc k) e l = rw e
 
-    pub family-above : lt_z z (pos 0) ≡ false → put (ended family.pattern) ≡ entry_lines (family_entry mark z i)
-    family-above l =
-        with_zeros (ended family.pattern) _ _ _ _ ∙ filled_ended family.pattern _ ∙ go z e l ∙ one-family
+    pub family_above : lt_z z (pos 0) ≡ false → put (ended family.pattern) ≡ entry_lines (family_entry mark z i)
+    family_above l =
+        with_zeros (ended family.pattern) _ _ _ _ ∙ filled_ended family.pattern _ ∙ go z e l ∙ one_family
       where
         go :
             (z : ℤ) → n ≡ nat_abs z → lt_z z (pos 0) ≡ false
@@ -114,7 +114,7 @@ pub family_stands :
 unfolding family_line family_at
 family_stands marks parts i g h =
     as_text
-    (ap (λ (z : ℤ). entry_lines (family_entry (get_or marks (i / families) 0) z i)) (to_z-of_z (record { sfits = g }))) h
+    (ap (λ (z : ℤ). entry_lines (family_entry (get_or marks (i / families) 0) z i)) (to_z-of_z {w = w64} (record { sfits = g }))) h
 
 pub mg_stands :
     (p l : List ℕ) (i : ℕ) {at r : ℕ} {out out' : List ℕ} → Stands (mg_text p (get_or l i 0) i) at out r out'
@@ -135,8 +135,8 @@ module _ (b : Book) {l o₁ : List ℕ} {w₁ : ℕ} (room : book_room ≤ lengt
   families_room = omega (arith, h₁.end_is, same_long h₁, open_length b.open_year)
 
   module _ {o₂ : List ℕ} {w₂ : ℕ} (h₂ : Stands (gather all_parts (family_line b.marks b.parts)) w₁ o₁ w₂ o₂) where
-    pub lots-room : w₂ + places * entry_room ≤ length o₂
-    lots-room =
+    pub lots_room : w₂ + places * entry_room ≤ length o₂
+    lots_room =
         omega (
           arith,
           h₁.end_is,
@@ -149,8 +149,8 @@ module _ (b : Book) {l o₁ : List ℕ} {w₁ : ℕ} (room : book_room ≤ lengt
 
     module _ {o₃ : List ℕ} {w₃ : ℕ} (h₃ : Stands (gather places (mg_line (ended lot.pattern) b.lots)) w₂ o₂ w₃ o₃)
       where
-        pub shortages-room : w₃ + places * entry_room ≤ length o₃
-        shortages-room =
+        pub shortages_room : w₃ + places * entry_room ≤ length o₃
+        shortages_room =
             omega (
               arith,
               h₁.end_is,

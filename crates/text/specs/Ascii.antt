@@ -1,7 +1,6 @@
 -- A quoted text as the list of its bytes.
 use Rattle.std.specs.Prelude.{ℕ, List, [], ◌∷◌}
 use Prim.Native.Char.{code}
-use Prim.Native.String
 use Prim.Native.String.{String}
 
 abbrev pub ascii : String → List ℕ

@@ -1,7 +1,7 @@
 -- Card 8: a book as its open year and its entries, "`(family maker set number part)` for each filed family, then
 -- `(lot maker set year Mg)`, then `(short maker set year Mg)`, both for Mg above 0. Each group rises by its first three
 -- figures."
-use Rattle.std.specs.Prelude.{ℕ, zero, suc, ◌+◌, ◌*◌, ◌/◌, ◌%◌, Bool, true, false, ◌&&◌, List, [], ◌∷◌, ◌++◌, ltb, get_or, set as store, ℤ, pos}
+use Rattle.std.specs.Prelude.{ℕ, ◌+◌, ◌*◌, ◌/◌, ◌%◌, Bool, true, false, ◌&&◌, List, [], ◌∷◌, ◌++◌, ltb, get_or, set as store, ℤ, pos}
 use Rattle.figuring.specs.Years.{first_year}
 use Rattle.book.specs.Sizes.{makers, sets, families, years, places, all_parts}
 use Rattle.book.specs.Ledger.{key, cell, place, marked}

@@ -1,7 +1,7 @@
 -- Document 01: "then lists the cells, maker before set, in rising order: for each cell the lots above 0, then its
 -- shortages above 0, by year, as maker, set, year, state (live or expired; open or overdue), Mg". What there is to show
 -- of a cell and a year is the book layer's to say.
-use Rattle.std.specs.Prelude.{ℕ, zero, suc, ◌+◌, ◌*◌, List, [], ◌∷◌, ◌++◌}
+use Rattle.std.specs.Prelude.{ℕ, ◌+◌, ◌*◌, List, [], ◌∷◌, ◌++◌}
 use Rattle.figuring.specs.Years.{first_year}
 use Rattle.book.specs.Sizes.{makers, sets, years}
 use Rattle.book.specs.Listing.{lot_entry, shortage_entry}

@@ -90,7 +90,7 @@ pub fn put_answer(out: &mut [u8], at: usize, answer: Answer) -> Placed
 }
 
 // The book after a line, and the place after its answer's text.
-#[derive(Drop)]
+#[derive(Clone, Copy)]
 pub struct Step {
     pub book: Book,
     pub at: usize,

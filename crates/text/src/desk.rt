@@ -11,7 +11,7 @@ use figuring::tables::Table;
 
 // The book, and the first len bytes of a line that has not ended yet. What lies past len is nobody's: a call may leave
 // anything there, and `ByWhatIsHeld` says that it shows nowhere, so two desks are compared by what they hold.
-#[derive(Drop)]
+#[derive(Clone, Copy)]
 pub struct Desk {
     pub book: Book,
     pub held: [u8; MOST_HELD],
@@ -19,7 +19,7 @@ pub struct Desk {
 }
 
 // Whether out had the room; the desk after it, and how many bytes of answers stand at out's start.
-#[derive(Drop)]
+#[derive(Clone, Copy)]
 pub struct Reply {
     pub fits: bool,
     pub desk: Desk,

@@ -16,7 +16,7 @@ pub(crate) const PARTS: u64 = 2_048;
 pub(crate) const PLACES: u64 = 768;
 
 // Its figures are plain numbers, as in the book's arrays.
-#[derive(Drop)]
+#[derive(Clone, Copy)]
 pub enum Entry {
     // Maker, set, number, part.
     Family(u64, u64, u64, i64),

@@ -13,14 +13,14 @@ use crate::patterns::{MOST_FIGURES, fitted};
 pub(crate) const BOOK_DIGITS: usize = 18;
 
 // What a line is.
-#[derive(Drop)]
+#[derive(Clone, Copy)]
 enum LineEntry {
     One(Entry),
     NoEntry,
 }
 
 // The entry of a line of a text, and where the next line begins.
-#[derive(Drop)]
+#[derive(Clone, Copy)]
 pub enum NextEntry {
     At(Entry, usize),
     Nothing,

@@ -1,5 +1,7 @@
 // The text layer of document 01, "Terminal text": lines to calls, answers to text, the input to its lines, the listing;
 // and tables of standards and whole books as texts of their own.
+#![tactic(auto)]
+
 pub mod answering;
 pub mod claims;
 pub mod desk;

@@ -12,7 +12,7 @@ pub const LONGEST_LINE: usize = 160;
 pub const MOST_DIGITS: usize = 12;
 
 // What a line is read as.
-#[derive(Drop)]
+#[derive(Clone, Copy)]
 pub enum Line {
     Form(Call),
     NoForm,

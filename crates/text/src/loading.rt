@@ -2,7 +2,7 @@
 use book::answers::Refusal;
 
 // That the text was read and is accepted; or the refusal.
-#[derive(Drop)]
+#[derive(Clone, Copy)]
 pub enum Loading {
     Loaded,
     Refused(Refusal),

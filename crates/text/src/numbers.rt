@@ -4,7 +4,7 @@ ghost use Rattle.text.specs.Placing.{Stands};
 ghost use Rattle.text.specs.Numeral.{leading, value, number, numeral};
 
 // A number that a text starts with: its value, and how many digits it has.
-#[derive(Drop)]
+#[derive(Clone, Copy)]
 pub enum Number {
     Read(u64, usize),
     Nothing,

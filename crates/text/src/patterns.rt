@@ -9,7 +9,7 @@ use crate::numbers::{Number, number_at, put_number};
 pub const MOST_FIGURES: usize = 12;
 
 // What stands in a text in the places of a pattern's #, 0 after the last; or that the text does not fit.
-#[derive(Drop)]
+#[derive(Clone, Copy)]
 pub struct Figures {
     pub fits: bool,
     pub n: [u64; MOST_FIGURES],

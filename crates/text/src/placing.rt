@@ -3,7 +3,7 @@ ghost use Rattle.std.specs.Prelude.{length};
 ghost use Rattle.text.specs.Placing.{Puts, room_for};
 
 // Whether the text fitted, and the place after it. Where it did not, nothing was put.
-#[derive(Drop)]
+#[derive(Clone, Copy)]
 pub struct Placed {
     pub fits: bool,
     pub at: usize,

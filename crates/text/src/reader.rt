@@ -8,7 +8,7 @@ ghost use Rattle.text.specs.Line.{line_at, line_of};
 use crate::entry_lines::{NextEntry, entry_at};
 use crate::lines::{Line, form_at};
 
-#[derive(Drop)]
+#[derive(Clone, Copy)]
 pub struct Reader<'a> {
     pub line: &'a [u8],
     pub at: usize,

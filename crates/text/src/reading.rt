@@ -22,14 +22,14 @@ use book::soundness::is_sound;
 pub const TEXT_ROOM: usize = BOOK_ROOM + 1;
 
 // What reading answers, and the book after it.
-#[derive(Drop)]
+#[derive(Clone, Copy)]
 pub struct ReadIn {
     pub loading: Loading,
     pub book: Book,
 }
 
 // Whether a text is a book's, and the book.
-#[derive(Drop)]
+#[derive(Clone, Copy)]
 struct TextBook {
     is: bool,
     book: Book,

@@ -15,7 +15,7 @@ use figuring::tables::Table;
 pub(crate) const MOST_HELD: usize = 161;
 
 // How far a chunk has been taken.
-#[derive(Drop)]
+#[derive(Clone, Copy)]
 pub struct Turn {
     // Whether a line has ended, and what it is; if none has, the chunk is taken whole.
     pub ended: bool,
@@ -29,7 +29,7 @@ pub struct Turn {
 }
 
 // The book after a chunk, and how far it has been taken.
-#[derive(Drop)]
+#[derive(Clone, Copy)]
 pub struct Served {
     pub book: Book,
     pub turn: Turn,

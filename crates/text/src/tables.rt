@@ -18,7 +18,7 @@ use figuring::years::FIRST_YEAR;
 pub const TABLE_ROOM: usize = 3_865;
 
 // The row of a line, if it is one.
-#[derive(Drop)]
+#[derive(Clone, Copy)]
 struct YearRow {
     is: bool,
     row: [u64; COLUMNS],

@@ -23,7 +23,7 @@ use figuring::years::FIRST_YEAR;
 pub const BOOK_ROOM: usize = 229_440;
 
 // The length of the text that was written; or the refusal.
-#[derive(Drop)]
+#[derive(Clone, Copy)]
 pub enum Wrote {
     Length(usize),
     Refused(Refusal),

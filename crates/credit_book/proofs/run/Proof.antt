@@ -12,7 +12,7 @@ at_end_requires : tie.Need-at-end-requires
 at_end_requires c κs = search rules
 
 close_requires : tie.Need-close-requires
-close_requires c κs = (sym c.before.before.at-end.ensures ∙ c.before.if1.true, search rules)
+close_requires c κs = (sym c.before.before.at_end.ensures ∙ c.before.if1.true, search rules)
 
 same_length : tie.Need-same-length
 same_length c = search rules
@@ -20,7 +20,7 @@ same_length c = search rules
 returns : tie.Need-returns
 returns c =
     let e =
-    sym c.before.before.before.before.before.at-end.ensures
+    sym c.before.before.before.before.before.at_end.ensures
     ∙ c.before.before.before.before.if1.true in
     let read = c.before.before.before.before.before.before.before.before.read_all.ensures in
     record {
@@ -38,7 +38,7 @@ same_length_2 c = search rules
 
 returns_2 : tie.Need-returns-2
 returns_2 c =
-    let e = sym c.before.before.before.at-end.ensures ∙ c.before.before.if1.false in
+    let e = sym c.before.before.before.at_end.ensures ∙ c.before.before.if1.false in
     let read = c.before.before.before.before.before.before.read_all.ensures in
     record {
       read = read;

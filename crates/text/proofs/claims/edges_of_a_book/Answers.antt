@@ -1,0 +1,8 @@
+use mathlib.Core.Path.{refl}
+use Rattle.text.proofs.ExampleLaws as laws
+use Rattle.text.proofs.claims.edges_of_a_book.Goals as goal
+
+-- The theorem, cited.
+
+pub returns : goal.returns
+returns c = (refl, laws.book_edges)

@@ -1,0 +1,11 @@
+use Prim.Native.Nat.{◌≤◌, ◌-◌}
+use Rattle.book.specs.Sizes.{years}
+use Rattle.text.specs.Listing.{shortage_line, entry_room}
+use Rattle.text.proofs.ListingLaws.{Gathered}
+use Rattle.text.proofs.listing.put_shortages.Given as goal
+
+abbrev pub invariant-loop-i : goal.invariant-loop-i
+invariant-loop-i l = (l.i ≤ years) × Gathered (shortage_line l.open_year l.shortages l.maker l.set) entry_room l.initial.out l.out l.at l.w l.i
+
+abbrev pub decreases-loop-i : goal.decreases-loop-i
+decreases-loop-i l = years - l.i

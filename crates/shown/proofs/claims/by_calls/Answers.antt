@@ -1,0 +1,8 @@
+use mathlib.Core.Path.{refl}
+use Rattle.shown.proofs.ShownLaws as laws
+use Rattle.shown.proofs.claims.by_calls.Goals as goal
+
+-- The theorem, cited.
+
+pub returns : goal.returns
+returns c = (refl, laws.by_calls)

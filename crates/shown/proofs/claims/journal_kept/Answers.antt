@@ -1,0 +1,8 @@
+use mathlib.Core.Path.{refl}
+use Rattle.shown.proofs.ShownLaws as laws
+use Rattle.shown.proofs.claims.journal_kept.Goals as goal
+
+-- The theorem, cited.
+
+pub returns : goal.returns
+returns c = (refl, laws.journal_kept)

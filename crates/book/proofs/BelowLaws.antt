@@ -1,17 +1,67 @@
--- Laws of the test of any and of the sums over the numbers below a bound: what a counted loop needs at each turn and at its end, and
--- what the theorems need of a sum of which one term changed.
-use Prim.Native.Nat.{ℕ, zero, suc, ◌+◌, ◌*◌, ◌<◌, ◌≤◌}
-use mathlib.Core.Bool.{Bool, true, false, or-true}
-use mathlib.Core.Logic.{⊎_elim}
+-- Laws of an amount under a condition, and of the test of any and the sums over the numbers below a bound: what a counted loop needs
+-- at each turn and at its end, and what the theorems need of a sum of which one term changed.
+use Prim.Native.Nat.{ℕ, zero, suc, ◌+◌, ◌*◌, ◌<◌, ◌≤◌, min}
+use mathlib.Core.Bool.{Bool, true, false, ◌||◌, or-true}
+use mathlib.Core.Logic.{◌≢◌, ⊎_elim}
 use mathlib.Core.Path.{◌≡◌, refl, ◌∙◌, ap, ap₂}
 use native.Mathlib.Omega.{arith}
 use native.Mathlib.Numerals.{add-one}
 use native.Mathlib.Nat.{le_refl, suc-mul}
 use native.Mathlib.Decide.{ℕ_discrete}
+use borrow.Author.Tests.{eq-eqb, ne_eqb}
+use lib.Dec.{eqb}
 use lib.IntN.{ℤ, pos, nat_abs, ◌+ℤ◌}
 use Rattle.figuring.proofs.SignedLaws.{abs_add}
 use Rattle.figuring.proofs.BelowLaws.{below_suc}
+use Rattle.book.specs.Accounts.{only}
 use Rattle.book.specs.Below.{any_below, sum_below, sum_below_ℤ, count_below, one_if}
+
+-- ---- an amount under a condition
+pub only_most : (t : Bool) (n : ℕ) → only t n ≤ n
+unfolding only
+only_most true n = omega arith
+only_most false n = omega arith
+
+pub only_same : (y z n : ℕ) → y ≡ z → only (eqb y z) n ≡ n
+unfolding only
+only_same y z n e = rw (eq-eqb y z e)
+
+pub only_other : (y z n : ℕ) → y ≢ z → only (eqb y z) n ≡ 0
+unfolding only
+only_other y z n e = rw (ne_eqb y z e)
+
+pub only_never : (t : Bool) (n : ℕ) → (t ≡ true → ⊥) → only t n ≡ 0
+unfolding only
+only_never true n h = absurd (h refl)
+only_never false n h = refl
+
+-- an amount above q: the condition holds
+pub only_some : (t : Bool) (n q : ℕ) → q < only t n → (t ≡ true) × (q < n)
+unfolding only
+only_some true n q h = (refl, h)
+only_some false n q h = absurd (omega arith)
+
+pub only_less : (t : Bool) (x q z : ℕ) → x + q ≡ z → only t x + only t q ≡ only t z
+unfolding only
+only_less true x q z e = e
+only_less false x q z e = refl
+
+pub only_falls : (t : Bool) (x y : ℕ) → (t ≡ true → x ≤ y) → only t x ≤ only t y
+unfolding only
+only_falls true x y h = h refl
+only_falls false x y h = omega arith
+
+pub only_first : (p q : Bool) (n : ℕ) → (p ≡ false → q ≡ true → n ≡ 0) → only (p || q) n ≤ only p n
+unfolding only
+only_first true q n h = omega arith
+only_first false true n h = omega (arith, h refl refl)
+only_first false false n h = omega arith
+
+pub only_either : (p q : Bool) (n : ℕ) → only p n ≤ only (p || q) n
+unfolding only
+only_either true q n = omega arith
+only_either false true n = omega arith
+only_either false false n = omega arith
 
 -- ---- one more
 pub any_more : (p : ℕ → Bool) (n : ℕ) → any_below n p ≡ false → p n ≡ false → any_below (n + 1) p ≡ false
@@ -54,6 +104,20 @@ pub sum_zero : (f : ℕ → ℕ) (n : ℕ) → ((i : ℕ) → i < n → f i ≡ 
 unfolding sum_below
 sum_zero f zero h = refl
 sum_zero f (suc n) h = omega (arith, sum_zero f n (λ i l. h i (omega arith)), h n (omega arith))
+
+-- where each pair of terms of two sums has a 0, one of the sums is 0
+pub either_zero :
+    (f g : ℕ → ℕ) (n : ℕ) → ((i j : ℕ) → i < n → j < n → min (f i) (g j) ≡ 0)
+    → min (sum_below n f) (sum_below n g) ≡ 0
+either_zero f g n h = go (ℕ_discrete (sum_below n f) 0)
+  where
+    at_one : (j : ℕ) → j < n → sum_below n f ≢ 0 → Dec (g j ≡ 0) → g j ≡ 0
+    at_one j hj e (yes z) = z
+    at_one j hj e (no z) = absurd (e (sum_zero f n (λ i hi. omega (arith, h i j hi hj, z))))
+
+    go : Dec (sum_below n f ≡ 0) → min (sum_below n f) (sum_below n g) ≡ 0
+    go (yes z) = omega arith
+    go (no e) = omega (arith, sum_zero g n (λ j hj. at_one j hj e (ℕ_discrete (g j) 0)))
 
 -- ---- counts
 pub count_more : (p : ℕ → Bool) (n : ℕ) → count_below (n + 1) p ≡ count_below n p + one_if (p n)

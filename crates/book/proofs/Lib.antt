@@ -20,6 +20,13 @@ pub mod StrikeOut
 pub mod Staying
 pub mod FreshSound
 pub mod KeptSound
+pub mod TurnLaws
+pub mod WordLaws
+pub mod CoverTurns
+pub mod CoverLaws
+pub mod CellSums
+pub mod PayLaws
+pub mod OldestFirst
 pub mod NeverUnsound
 pub mod BegunAnew
 pub mod MarkedFigures

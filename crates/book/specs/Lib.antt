@@ -10,6 +10,9 @@ pub mod Accounts
 pub mod Demand3
 pub mod Demand1
 pub mod Companions
+pub mod Coverage
+pub mod Covering
+pub mod Paying
 pub mod BegunAnew
 pub mod Orders
 pub mod FilingOrder
@@ -17,6 +20,7 @@ pub mod FiveDecimals
 pub mod Editions
 pub mod Amendments
 pub mod OwnStandards
+pub mod OldestFirst
 pub mod Listing
 pub mod Marked
 pub mod EachAccount

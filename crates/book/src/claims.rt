@@ -15,10 +15,12 @@ ghost use Rattle.book.specs.FiveDecimals.{SameSessions, SoundParts};
 ghost use Rattle.book.specs.Editions.{ElseTheSame, Reaches6, SixThenSeventeen, UnderNamed};
 ghost use Rattle.book.specs.Amendments.{Amended, CountsLast, LastCounts, StandsInPlaceOf9};
 ghost use Rattle.book.specs.OwnStandards.{AsBefore, ReadNoTable, Twenty, WithinBound};
+ghost use Rattle.book.specs.OldestFirst.{AskedOfCover, ByHand, NoneBetter, OldestFirst};
 ghost use Rattle.book.specs.Marked.{MarkedFigures};
 ghost use Rattle.book.specs.EachAccount.{EachAccount};
 ghost use Rattle.book.specs.declared.ledger.Book.{Book};
 ghost use Rattle.book.specs.declared.kinds.Call.{Call};
+ghost use Rattle.book.specs.declared.kinds.Cover.{Cover};
 ghost use Rattle.book.specs.declared.kinds.Filing.{Filing};
 
 // Demand 1: its result or one numbered refusal, which leaves the book as it was.
@@ -162,6 +164,24 @@ pub fn tables_judged() -> bool
 // With the built-in table every answer and every book is what it was before.
 pub fn as_before() -> bool
     ensures { (result ≡ true) × ((b : Book) (c : Call) → AsBefore b c) }
+{
+    true
+}
+
+// Card 9: a cover that nothing refuses pays the oldest open shortage from the oldest live lot until either kind is used
+// up, and is the applications that it makes, each accepted in its turn; the Mg moved are the smaller of the two totals.
+// 2, 3 and 4 alone concern it.
+pub fn oldest_first() -> bool
+    ensures { (result ≡ true) × ((t : Table) (b : Book) (c : Cover) → OldestFirst t b c)
+        × ByHand
+        × ((b : Book) (c : Cover) → AskedOfCover b c) }
+{
+    true
+}
+
+// No other list of the maker's applications in the set that covers as many Mg leaves more in the younger lots.
+pub fn none_better() -> bool
+    ensures { (result ≡ true) × ((t : Table) (b : Book) (c : Cover) → NoneBetter t b c) }
 {
     true
 }

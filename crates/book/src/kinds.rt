@@ -41,6 +41,13 @@ pub struct Retirement {
     pub mg: u64,
 }
 
+// Oldest credits first (card 9). It is no call yet: covering.rt pays it.
+#[derive(Clone, Copy)]
+pub struct Cover {
+    pub maker: u64,
+    pub set: u64,
+}
+
 #[derive(Clone, Copy)]
 pub enum Call {
     File(Filing),

@@ -5,6 +5,7 @@ pub mod answers;
 pub mod applying;
 pub mod claims;
 pub mod closing;
+pub mod covering;
 pub mod filing;
 mod head;
 pub mod in_place;

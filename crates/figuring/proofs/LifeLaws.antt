@@ -63,6 +63,20 @@ pub open_is : (Y y : ℕ) → not (open_short Y y) ≡ false → OpenShort Y y
 unfolding open_short
 open_is Y y e = young_is 4 Y y (not-false (open_short Y y) e)
 
+-- ── and the other way round
+is_young : (life Y y : ℕ) → Young life Y y → (closed_year Y y && leb Y (y + life)) ≡ true
+unfolding closed_year
+is_young life Y y h =
+    and_intro (and_intro (le-leb first_year y h.from) (lt-ltb y Y h.closed)) (le-leb Y (y + life) h.young)
+
+pub is_live : (Y v : ℕ) → Live Y v → live Y v ≡ true
+unfolding live
+is_live = is_young 6
+
+pub is_open : (Y y : ℕ) → OpenShort Y y → open_short Y y ≡ true
+unfolding open_short
+is_open = is_young 4
+
 -- ── an expired lot's year, and an overdue shortage's
 pub record Old (life Y y : ℕ) : Type 0 where
   pub from : first_year ≤ y

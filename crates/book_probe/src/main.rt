@@ -4,6 +4,8 @@
 // bits, low byte first. In the place of a call a record may name a number of bytes that follow it: they are read as the
 // text of a book, and the book is written into them (texts.rt).
 // A last record that is cut short is ignored. A kind that is not known, or too many bytes, end the run, with a message.
+#![tactic(auto)]
+
 mod records;
 mod texts;
 mod words;
@@ -11,17 +13,18 @@ mod words;
 ghost use Rattle.std.specs.Prelude.{◌≡◌, length};
 ghost use Rattle.book_probe.specs.Sizes.{answer_bytes, record_bytes, text_bytes};
 
-use libc::{STDERR_FILENO, STDIN_FILENO, STDOUT_FILENO};
 use records::{Asked, RECORD, answer_call, asked_of};
+use streams::read_full;
 use texts::text_turn;
 
 // Reads one record and writes its answer; false at the input's end, at a kind that is not known or too many bytes, or if a
 // write fails.
-fn turn(input: &mut [u8], bytes: &mut [u8], out: &mut [u8]) -> bool
+fn turn(rt: HostRuntime, input: &mut [u8], bytes: &mut [u8], out: &mut [u8]) -> bool
     requires { (record_bytes ≡ length input.old)
         × ((text_bytes ≡ length bytes.old) × (answer_bytes ≡ length out.old)) }
 {
-    let got = io::read_full(STDIN_FILENO, input);
+    let mut from = rt.stdin();
+    let got = read_full(&mut from, input);
     if got < RECORD {
         return false;
     }
@@ -29,23 +32,23 @@ fn turn(input: &mut [u8], bytes: &mut [u8], out: &mut [u8]) -> bool
     match asked {
         Asked::Post(call) => {
             answer_call(input, call, out);
-            io::write_all(STDOUT_FILENO, out)
+            rt.write_all(out).is_ok()
         }
-        Asked::Text(count) => text_turn(input, count, bytes, out),
+        Asked::Text(count) => text_turn(rt, input, count, bytes, out),
         Asked::Unknown => {
-            io::write_all(STDERR_FILENO, b"book_probe: not a kind of call\n");
+            let _ = eprintln!(rt; "book_probe: not a kind of call");
             false
         }
     }
 }
 
-fn main() {
+fn main(rt: HostRuntime) {
     let mut input = [0u8; 30176];
     let mut bytes = [0u8; 229441];
     let mut out = [0u8; 28968];
     let mut turns = u64::MAX;
     while turns > 0 {
-        let more = turn(&mut input, &mut bytes, &mut out);
+        let more = turn(rt, &mut input, &mut bytes, &mut out);
         if more {
             turns -= 1;
         } else {

@@ -7,36 +7,43 @@ ghost use Rattle.book_probe.specs.Sizes.{answer_bytes, record_bytes, text_bytes}
 use crate::records::{Figures, book_of, put_answer};
 use book::answers::refusal_number;
 use book::soundness::is_sound;
-use libc::{STDERR_FILENO, STDIN_FILENO, STDOUT_FILENO};
+use streams::read_full;
 use text::loading::Loading;
 use text::reading::{TEXT_ROOM, read_book};
 use text::writing::{Wrote, write_book};
 
 // Reads the bytes of a record, and writes its answer and the bytes after it; false as `turn` says.
-pub(crate) fn text_turn(input: &[u8], count: u64, bytes: &mut [u8], out: &mut [u8]) -> bool
+pub(crate) fn text_turn(
+    rt: HostRuntime,
+    input: &[u8],
+    count: u64,
+    bytes: &mut [u8],
+    out: &mut [u8],
+) -> bool
     requires { (record_bytes ≡ length input.now)
         × ((text_bytes ≡ length bytes.old) × (answer_bytes ≡ length out.old)) }
 {
     if count > TEXT_ROOM as u64 {
-        io::write_all(STDERR_FILENO, b"book_probe: too many bytes\n");
+        let _ = eprintln!(rt; "book_probe: too many bytes");
         return false;
     }
     let n = count as usize;
-    bytes_turn(input, &mut bytes[..n], out)
+    bytes_turn(rt, input, &mut bytes[..n], out)
 }
 
-fn bytes_turn(input: &[u8], bytes: &mut [u8], out: &mut [u8]) -> bool
+fn bytes_turn(rt: HostRuntime, input: &[u8], bytes: &mut [u8], out: &mut [u8]) -> bool
     requires { (record_bytes ≡ length input.now) × (answer_bytes ≡ length out.old) }
 {
-    let got = io::read_full(STDIN_FILENO, bytes);
+    let mut from = rt.stdin();
+    let got = read_full(&mut from, bytes);
     if got < bytes.len() {
         return false;
     }
     answer_text(input, bytes, out);
-    if !io::write_all(STDOUT_FILENO, out) {
+    if rt.write_all(out).is_err() {
         return false;
     }
-    io::write_all(STDOUT_FILENO, bytes)
+    rt.write_all(bytes).is_ok()
 }
 
 // The reading comes first, since the writing changes the bytes.

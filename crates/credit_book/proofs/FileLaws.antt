@@ -10,8 +10,7 @@ use lib.Seq.{take-add, length-take-le}
 use mir.Syntax.{w64}
 use mir.Val.{SFits, to_z, of_z}
 use mir.Facts.{to_z-of_z}
-use borrow.Rule.Slice.PartMut.{mid_of, put_mid, take_put, mid_len}
-use Rattle.io.specs.Counts.{clamp_len}
+use Rattle.streams.specs.Counts.{clamp_len}
 use Rattle.book.specs.declared.answers.Refusal.{Refusal}
 use Rattle.text.specs.declared.loading.Loading.{Loading}
 use Rattle.text.specs.Loads.{Read, accepted, refused, loading_of, kept}
@@ -20,23 +19,6 @@ use Rattle.credit_book.specs.declared.files.Added.{Added}
 use Rattle.credit_book.specs.declared.files.TextRead.{TextRead}
 use Rattle.credit_book.specs.Turns.{at_end, most_turns, turn_fine}
 use Rattle.credit_book.specs.Files.{AddedBy, ComesTo, Pieces, TextReadBy, file_on}
-
--- ---- one read
--- the part of a buffer that is lent from a on, and the buffer once it is back
-abbrev lent : ℕ → List ℕ → List ℕ
-lent a l = mid_of a (length l - a) l
-
-abbrev back : ℕ → List ℕ → List ℕ → List ℕ
-back a l part = put_mid a (length l - a) l part
-
-pub added :
-    {n : ℕ} {got : ℤ} {interrupted : Bool} (a : ℕ) (l part : List ℕ)
-    → a ≤ length l → length (back a l part) ≡ length l → n ≡ clamp_len got (length (lent a (back a l part)))
-    → AddedBy a l (record { got = got; interrupted = interrupted; at = a + n }) (back a l part)
-added a l part h q k =
-    let m : length (lent a (back a l part)) ≡ length (back a l part) - a =
-    mid_len a (length (back a l part)) (back a l part) (omega arith) in
-    record { before = take_put a (length l - a) l part h; at_is = rw (k, m, q) }
 
 -- ---- the reading
 -- the loop's invariant: what has been read so far
@@ -77,7 +59,8 @@ clamped_most (negsuc k) most = omega arith
 pub next :
     {text₀ text text' : List ℕ} {len turns : ℕ} {on before more fine : Bool} {r : Added}
     → on ≡ true → turns < most_turns → SoFar text₀ text len turns on before
-    → length text' ≡ length text → AddedBy len text r text' → SFits w64 r.got
+    → length text' ≡ length text → AddedBy len text r text'
+    → SFits w64 r.got
     → fine ≡ turn_fine (to_z w64 (of_z w64 r.got)) r.interrupted true
     → more ≡ file_on (length text') (to_z w64 (of_z w64 r.got)) fine r.at
     → SoFar text₀ text' r.at (turns + 1) more fine

@@ -1,16 +1,11 @@
 -- Laws of the program's turns.
-use Prim.Native.Nat.{ℕ, zero, suc, ◌+◌, ◌≤◌, ◌<◌}
+use Prim.Native.Nat.{ℕ, ◌+◌, ◌≤◌, ◌<◌}
 use native.Mathlib.Nat.{zero-add}
 use native.Mathlib.Omega.{arith}
-use mathlib.Core.Bool.{Bool, true, false, cond, true≢false}
+use mathlib.Core.Bool.{Bool, true, false, true≢false}
 use mathlib.Core.Path.{◌≡◌, refl, sym, ap, subst, ◌∙◌}
 use mathlib.Core.List.{List, [], ◌∷◌, ◌++◌}
 use lib.IntN.{ℤ, pos, negsuc}
-use lib.Signed.{lt_z}
-use borrow.Author.Tests.{ltb-true}
-use mir.Syntax.{Width, w64}
-use mir.Val.{SFits, to_z, of_z}
-use mir.Facts.{to_z-of_z}
 use lib.ListN.{length, length-append}
 use lib.Seq.{length-take-le}
 use Rattle.figuring.specs.Tables.{Table}
@@ -24,7 +19,10 @@ use Rattle.text.proofs.StoreLaws.{same_long}
 use Rattle.credit_book.specs.declared.Wrote.{Wrote}
 use Rattle.credit_book.specs.declared.Said.{Said}
 use Rattle.credit_book.specs.declared.Turn.{Turn}
-use Rattle.io.specs.Counts.{clamp_len}
+use mir.Syntax.{w64}
+use mir.Val.{SFits, to_z, of_z}
+use mir.Facts.{to_z-of_z}
+use Rattle.streams.specs.Counts.{clamp_len}
 use Rattle.credit_book.specs.Turns.{chunk_room, first_bytes, Delivered, Turned, Reading, ClosedBy, turn_fine}
 use Rattle.credit_book.specs.Turns.{reads_on, most_turns}
 
@@ -84,30 +82,6 @@ next {t = t} {b = b} {d = d} {before = before} {r = r} o h g s z f m =
           (as_long r.got s.buffer s.long) (s.delivered.stands.end_is ∙ zero-add _));
       counts = rw (length-append g.chunks (first_bytes r.got s.buffer ∷ [])) (omega (arith, g.counts));
     }
-
--- ---- what a call of the system answered
-pub below_zero : {w : Width} {b : Bool} (z : ℤ) → SFits w z → lt_z (to_z w (of_z w z)) (pos 0) ≡ b → lt_z z (pos 0) ≡ b
-below_zero z f e = ap (λ (x : ℤ). lt_z x (pos 0)) (sym (to_z-of_z f)) ∙ e
-
-pub negative_fine :
-    (z : ℤ) (interrupted wrote : Bool) → lt_z z (pos 0) ≡ true → cond interrupted wrote false
-    ≡ turn_fine z interrupted wrote
-negative_fine (pos k) i w e = let h : k < 0 = ltb-true k 0 e in absurd (omega arith)
-negative_fine (negsuc k) i w e = refl
-
-pub other_fine : (z : ℤ) (interrupted wrote : Bool) → lt_z z (pos 0) ≡ false → wrote ≡ turn_fine z interrupted wrote
-other_fine (pos k) i w e = refl
-other_fine (negsuc k) i w e = absurd (true≢false e)
-
-pub ended : (z : ℤ) (fine : Bool) → SFits w64 z → of_z w64 z ≡ 0 → false ≡ reads_on z fine
-ended z fine f e =
-    let n : z ≡ pos 0 = sym (to_z-of_z f) ∙ ap (to_z w64) e in
-    rw n
-
-pub not_ended : (z : ℤ) (fine : Bool) → (of_z w64 z ≡ 0 → ⊥) → fine ≡ reads_on z fine
-not_ended (pos zero) fine n = absurd (n refl)
-not_ended (pos (suc k)) fine n = refl
-not_ended (negsuc k) fine n = refl
 
 -- ---- the end of the input
 -- a text that stands at the buffer's start, and is handed over to its end

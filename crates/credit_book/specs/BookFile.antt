@@ -1,5 +1,5 @@
 -- Card 8: the book that a run begins with, by what became of the file named after `--read`.
-use Rattle.std.specs.Prelude.{ℕ, zero, suc, ◌≡◌, List}
+use Rattle.std.specs.Prelude.{ℕ, zero, suc, ◌≡◌}
 use Rattle.book.specs.Postings.{fresh_book}
 use Rattle.book.specs.declared.ledger.Book.{Book}
 use Rattle.text.specs.Loads.{Read, accepted, refused}

@@ -1,7 +1,7 @@
 -- A file that is read into a lent buffer: what the functions that read it hold to. They say it of values, as in Turns: what
 -- each read answered, and what stood in the buffer.
-use Rattle.std.specs.Prelude.{ℕ, ◌+◌, ◌-◌, Bool, true, false, cond, ◌≡◌, List, [], ◌∷◌, ◌++◌, ltb, ℤ, pos, negsuc, length, take}
-use Rattle.io.specs.Counts.{clamp_len}
+use Rattle.std.specs.Prelude.{ℕ, ◌+◌, ◌-◌, Bool, true, false, cond, ◌≡◌, List, [], ◌∷◌, ◌++◌, ltb, ℤ, length, take}
+use Rattle.streams.specs.Counts.{clamp_len}
 use Rattle.text.specs.Program.{joined}
 use Rattle.credit_book.specs.declared.files.Added.{Added}
 use Rattle.credit_book.specs.declared.files.TextRead.{TextRead}

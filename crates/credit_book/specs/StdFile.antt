@@ -1,5 +1,7 @@
 -- Card 7: "The file `std.txt` (built-in table where it is absent)": what the functions that read it hold to.
-use Rattle.std.specs.Prelude.{Bool, true, false, ◌≡◌, ℤ, pos, negsuc}
+use Rattle.std.specs.Prelude.{Bool, true, false, ◌≡◌, Result, Ok, Err}
+use Rattle.std.specs.declared.fs.File.{File}
+use Rattle.std.specs.declared.io.Error.{Error}
 use Rattle.figuring.specs.Tables.{Table}
 use Rattle.text.specs.Loads.{Read, accepted, refused}
 use Rattle.text.specs.TableText.{table_of, table_room}
@@ -17,15 +19,15 @@ FromFile TableFile.Loaded t' = TextComesTo (accepted t')
 FromFile (TableFile.Refused r) t' = TextComesTo (refused r)
 FromFile TableFile.Unreadable t' = Broken table_room
 
--- by what the opening answered, a descriptor or a negative number, and by whether there is no such file: it is absent only
--- then, and the table is as it was
-abbrev pub Opened : ℤ → Bool → Table → TableFile → Table → Type 0
-Opened (pos fd) absent t r t' = FromFile r t'
-Opened (negsuc k) true t r t' = (r ≡ TableFile.Absent) × (t' ≡ t)
-Opened (negsuc k) false t r t' = r ≡ TableFile.Unreadable
+-- by what the opening answered, a file or an error, and by whether there is no such file: it is absent only then, and the
+-- table is as it was
+abbrev pub Opened : Result File Error → Bool → Table → TableFile → Table → Type 0
+Opened (Ok file) absent t r t' = FromFile r t'
+Opened (Err why) true t r t' = (r ≡ TableFile.Absent) × (t' ≡ t)
+Opened (Err why) false t r t' = r ≡ TableFile.Unreadable
 
 -- what became of std.txt: there are such answers
 pub record StdFileBy (t : Table) (r : TableFile) (t' : Table) : Type 0 where
-  pub fd : ℤ
+  pub opening : Result File Error
   pub absent : Bool
-  pub opened : Opened fd absent t r t'
+  pub opened : Opened opening absent t r t'

@@ -2,7 +2,7 @@
 -- values: what a read answered, how many bytes standard output was handed, and what stood in the buffer they came from.
 -- t is the table of standards, one for the whole run, b the book that it begins with, and x a terminal.
 use Rattle.std.specs.Prelude.{ℕ, zero, suc, Bool, true, false, cond, ◌≡◌, List, [], ◌∷◌, ◌++◌, ℤ, pos, negsuc, length, take}
-use Rattle.io.specs.Counts.{clamp_len}
+use Rattle.streams.specs.Counts.{clamp_len}
 use Rattle.figuring.specs.Tables.{Table}
 use Rattle.book.specs.declared.ledger.Book.{Book}
 use Rattle.text.specs.declared.desk.Desk.{Desk}

@@ -5,7 +5,6 @@ use Rattle.book.specs.declared.answers.Refusal.{Refusal}
 use Rattle.book.specs.declared.answers.Answer.{Answer}
 use Rattle.text.specs.Answers.{text_of}
 use Rattle.text.specs.Placing.{Stands}
-use Rattle.credit_book.specs.declared.Ran.{Ran}
 use Rattle.credit_book.specs.declared.Outcome.{Outcome}
 use Rattle.credit_book.specs.declared.start.Start.{Start}
 use Rattle.credit_book.specs.Turns.{RanBy, Unclosed}

@@ -1,8 +1,18 @@
 // The program's arguments: `--read FILE` and `--write FILE`, each at most once, in either order.
+ghost use Rattle.std.specs.Prelude.{◌≤◌};
+
+use std::env::{Env, FillError};
+use std::fs::File;
+use std::{fs, io};
+use streams::{PATH_ROOM, named_path};
+
 const WORD_ROOM: usize = 8;
 
+// The most arguments that are known, with the program's own name.
+const MOST: usize = 5;
+
 // Whether the arguments are these; and the places of the two names among them, 0 where a file is not named.
-#[derive(Drop)]
+#[derive(Clone, Copy)]
 pub struct Asked {
     pub known: bool,
     pub read: usize,
@@ -24,18 +34,33 @@ fn same(a: &[u8], b: &[u8]) -> bool {
 }
 
 // Whether an argument is a word. One that is longer than the buffer is none.
-fn is_word(i: usize, word: &[u8]) -> bool {
+fn is_word(rt: HostRuntime, i: usize, word: &[u8]) -> bool {
     let mut buffer = [0u8; WORD_ROOM];
-    let n = os::arg(i, &mut buffer);
-    same(&buffer[..n], word)
+    match rt.arg(i, &mut buffer) {
+        Ok(n) => same(&buffer[..n], word),
+        Err(_) => false,
+    }
+}
+
+// How many arguments there are, with the program's own name; one more than are known stands for any more.
+fn arg_count(rt: HostRuntime) -> usize
+    ensures { result ≤ 6 }
+{
+    let mut buffer = [0u8; WORD_ROOM];
+    for i in 0..=MOST {
+        if let Err(FillError::NotPresent) = rt.arg(i, &mut buffer) {
+            return i;
+        }
+    }
+    MOST + 1
 }
 
 // The place of the name that follows a word.
-fn name_after(word: &[u8]) -> usize {
-    if is_word(1, word) {
+fn name_after(rt: HostRuntime, word: &[u8]) -> usize {
+    if is_word(rt, 1, word) {
         return 2;
     }
-    if is_word(3, word) {
+    if is_word(rt, 3, word) {
         return 4;
     }
     0
@@ -55,19 +80,19 @@ fn are_known(count: usize, read: usize, write: usize) -> bool {
     true
 }
 
-pub fn named_files() -> Asked {
-    let read = name_after(b"--read");
-    let write = name_after(b"--write");
+pub fn named_files(rt: HostRuntime) -> Asked {
+    let read = name_after(rt, b"--read");
+    let write = name_after(rt, b"--write");
     Asked {
-        known: are_known(os::arg_count(), read, write),
+        known: are_known(arg_count(rt), read, write),
         read,
         write,
     }
 }
 
-// Opens the file that an argument names, for reading, and answers a descriptor, or a negative number.
-pub fn open_named(name: usize) -> i32 {
-    let mut path = io::buffer();
-    let n = os::arg(name, &mut path);
-    os::open_read(&path[..n])
+// Opens the file that an argument names, for reading.
+pub fn open_named(rt: HostRuntime, name: usize) -> io::Result<File> {
+    let mut buffer = [0u8; PATH_ROOM];
+    let path = named_path(rt, name, &mut buffer)?;
+    fs::open(&rt, path)
 }

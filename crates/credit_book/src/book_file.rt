@@ -9,11 +9,16 @@ use crate::arguments::open_named;
 use crate::files::{end_reading, read_text};
 use book::answers::Refusal;
 use book::ledger::{Book, fresh};
+use std::fs::File;
+use streams::tell;
 use text::loading::Loading;
 use text::reading::{TEXT_ROOM, read_book};
 
+// What is told that failed.
+const WHAT: &str = "credit-book: --read";
+
 // What became of the file.
-#[derive(Drop)]
+#[derive(Clone, Copy)]
 pub enum BookFile {
     // None is named.
     Unnamed,
@@ -25,7 +30,7 @@ pub enum BookFile {
 }
 
 // And the book that it has, a fresh one where it has none.
-#[derive(Drop)]
+#[derive(Clone, Copy)]
 pub struct FirstBook {
     pub file: BookFile,
     pub book: Book,
@@ -40,12 +45,12 @@ fn no_book(file: BookFile) -> FirstBook
 }
 
 // The book of a file that was opened.
-fn load_book(fd: i32) -> FirstBook
+fn load_book(rt: HostRuntime, mut file: File) -> FirstBook
     ensures { FromBookFile result.file result.book }
 {
     let mut text = [0u8; TEXT_ROOM];
-    let read = read_text(fd, &mut text);
-    if !end_reading(fd, read, b"credit-book: --read") {
+    let read = read_text(rt, &mut file, WHAT, &mut text);
+    if !end_reading(rt, file, read, WHAT) {
         return no_book(BookFile::Unreadable);
     }
     let n = read.len;
@@ -65,16 +70,17 @@ fn load_book(fd: i32) -> FirstBook
 }
 
 // name is the place of the file's name among the arguments, 0 where none is named.
-pub fn first_book(name: usize) -> FirstBook
+pub fn first_book(rt: HostRuntime, name: usize) -> FirstBook
     ensures { FirstBookBy name result }
 {
     if name == 0 {
         return no_book(BookFile::Unnamed);
     }
-    let fd = open_named(name);
-    if fd < 0 {
-        os::fail(b"credit-book: --read");
-        return no_book(BookFile::Unreadable);
+    match open_named(rt, name) {
+        Ok(file) => load_book(rt, file),
+        Err(why) => {
+            tell(rt, WHAT, &why);
+            no_book(BookFile::Unreadable)
+        }
     }
-    load_book(fd)
 }

@@ -4,8 +4,11 @@ ghost use Rattle.std.specs.Prelude.{◌≤◌, ◌≡◌, length};
 ghost use Rattle.credit_book.specs.Turns.{at_end};
 ghost use Rattle.credit_book.specs.Files.{AddedBy, TextReadBy, file_on};
 
+use std::fs::File;
+use streams::{count, read_once};
+
 // What a read answered, whether a signal interrupted it, and the place after its bytes.
-#[derive(Drop)]
+#[derive(Clone, Copy)]
 pub struct Added {
     pub got: isize,
     pub interrupted: bool,
@@ -13,7 +16,7 @@ pub struct Added {
 }
 
 // How many bytes were read, in how many reads, whether there may be more to read, and whether nothing failed.
-#[derive(Drop)]
+#[derive(Clone, Copy)]
 pub struct TextRead {
     pub len: usize,
     pub turns: u64,
@@ -21,17 +24,16 @@ pub struct TextRead {
     pub fine: bool,
 }
 
-// Reads once, into what is left of the buffer.
-fn add_some(fd: i32, text: &mut [u8], at: usize) -> Added
+// Reads once, into what is left of the buffer. A read that failed is told of `what`.
+fn add_some(rt: HostRuntime, file: &mut File, what: &str, text: &mut [u8], at: usize) -> Added
     requires { at ≤ length text.old }
     ensures { AddedBy at text.old result text.new }
 {
-    let got = libc::read(fd, &mut text[at..]);
-    let interrupted = os::errno() == libc::EINTR;
-    let n = io::count(got, &text[at..]);
+    let read = read_once(rt, file, &mut text[at..], what);
+    let n = count(read.got, &text[at..]);
     Added {
-        got,
-        interrupted,
+        got: read.got,
+        interrupted: read.interrupted,
         at: at + n,
     }
 }
@@ -48,7 +50,7 @@ fn file_on(got: isize, fine: bool, len: usize, room: usize) -> bool
 }
 
 // Reads a file to its end, or until the buffer is full. As to the turns, see `read_all`.
-pub fn read_text(fd: i32, text: &mut [u8]) -> TextRead
+pub fn read_text(rt: HostRuntime, file: &mut File, what: &str, text: &mut [u8]) -> TextRead
     ensures { TextReadBy result text.new }
 {
     let mut len: usize = 0;
@@ -56,7 +58,7 @@ pub fn read_text(fd: i32, text: &mut [u8]) -> TextRead
     let mut more = true;
     let mut fine = true;
     while more && turns < u64::MAX {
-        let added = add_some(fd, text, len);
+        let added = add_some(rt, file, what, text, len);
         len = added.at;
         fine = crate::turn_fine(added.got, added.interrupted, true);
         more = file_on(added.got, fine, len, text.len());
@@ -70,14 +72,13 @@ pub fn read_text(fd: i32, text: &mut [u8]) -> TextRead
     }
 }
 
-// The end of a file's reading: whether it came to its end, or filled the buffer. If not, that is told of what was read.
-pub fn end_reading(fd: i32, read: TextRead, what: &[u8]) -> bool
+// The end of a file's reading: whether it came to its end, or filled the buffer. If not, that is told of what was read: a
+// read that failed told it, and used-up turns are told here. The file is closed.
+pub fn end_reading(rt: HostRuntime, _file: File, read: TextRead, what: &str) -> bool
     ensures { result ≡ at_end read.more read.fine }
 {
-    let ended = crate::at_end(read.more, read.fine);
-    if !ended {
-        os::fail(what);
+    if read.more {
+        let _ = eprintln!(rt; "{what}: Too many reads");
     }
-    libc::close(fd);
-    ended
+    crate::at_end(read.more, read.fine)
 }

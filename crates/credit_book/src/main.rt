@@ -2,6 +2,8 @@
 // lists the cells; then it writes the book out to a file, where one is named.
 // All that answers is handed one table of standards: that of the file std.txt, or the built-in one.
 // The contracts speak of values, since none can say what a call of the system read or wrote (specs/Turns.antt).
+#![tactic(auto)]
+
 mod arguments;
 mod book_file;
 mod files;
@@ -23,9 +25,9 @@ use arguments::{Asked, named_files};
 use book::answers::{Answer, Refusal};
 use book::ledger::Book;
 use figuring::tables::Table;
-use libc::{STDIN_FILENO, STDOUT_FILENO};
 use saving::save;
 use start::{Prepared, Start, prepare};
+use streams::{count, read_once, tell};
 use text::answering::ANSWER_ROOM;
 use text::desk::Desk;
 
@@ -35,21 +37,21 @@ const CHUNK: usize = 4_096;
 const OUT_ROOM: usize = ANSWER_ROOM * CHUNK;
 
 // How many bytes were handed to standard output, and whether it took them all.
-#[derive(Drop)]
+#[derive(Clone, Copy)]
 pub struct Wrote {
     pub handed: usize,
     pub fine: bool,
 }
 
 // A desk, and the writing of what it said.
-#[derive(Drop)]
+#[derive(Clone, Copy)]
 pub struct Said {
     pub desk: Desk,
     pub wrote: Wrote,
 }
 
 // The desk after a read; what the read answered, and whether a signal interrupted it; the writing of the answers.
-#[derive(Drop)]
+#[derive(Clone, Copy)]
 pub struct Turn {
     pub desk: Desk,
     pub got: isize,
@@ -58,7 +60,7 @@ pub struct Turn {
 }
 
 // The desk after the reads, how many there were, whether there may be more to read, and whether nothing failed.
-#[derive(Drop)]
+#[derive(Clone, Copy)]
 pub struct Input {
     pub desk: Desk,
     pub turns: u64,
@@ -67,7 +69,7 @@ pub struct Input {
 }
 
 // The writing of the last line's answer, and of the listing; the book after the last line.
-#[derive(Drop)]
+#[derive(Clone, Copy)]
 pub struct Closed {
     pub last: Wrote,
     pub listed: Wrote,
@@ -75,14 +77,14 @@ pub struct Closed {
 }
 
 // The input as it was read, and what was written at its end.
-#[derive(Drop)]
+#[derive(Clone, Copy)]
 pub struct Ran {
     pub input: Input,
     pub closed: Closed,
 }
 
 // What was asked, what came before the run, the writing of a refused text's answer, the run, and the writing out of its book.
-#[derive(Drop)]
+#[derive(Clone, Copy)]
 pub struct Outcome {
     pub asked: Asked,
     pub prepared: Prepared,
@@ -91,16 +93,24 @@ pub struct Outcome {
     pub saved: Wrote,
 }
 
-fn written(text: &[u8]) -> Wrote
+fn written(rt: HostRuntime, text: &[u8]) -> Wrote
     ensures { result.handed ≡ length text.now }
 {
-    let fine = io::write_all(STDOUT_FILENO, text);
-    if !fine {
-        os::fail(b"credit-book: standard output");
-    }
+    let fine = took_all(rt, text);
     Wrote {
         handed: text.len(),
         fine,
+    }
+}
+
+// Whether standard output took a text. If not, that is told.
+fn took_all(rt: HostRuntime, text: &[u8]) -> bool {
+    match rt.write_all(text) {
+        Ok(()) => true,
+        Err(why) => {
+            tell(rt, "credit-book: standard output", &why);
+            false
+        }
     }
 }
 
@@ -115,36 +125,36 @@ fn unwritten() -> Wrote
 }
 
 // Writes what a desk said, the first at bytes of out.
-fn say(desk: Desk, at: usize, out: &[u8]) -> Said
+fn say(rt: HostRuntime, desk: Desk, at: usize, out: &[u8]) -> Said
     requires { at ≤ length out.now }
     ensures { (result.desk ≡ desk) × (result.wrote.handed ≡ at) }
 {
-    let wrote = written(&out[..at]);
+    let wrote = written(rt, &out[..at]);
     Said { desk, wrote }
 }
 
-fn answer_chunk(desk: Desk, table: Table, chunk: &[u8], out: &mut [u8]) -> Said
+fn answer_chunk(rt: HostRuntime, desk: Desk, table: Table, chunk: &[u8], out: &mut [u8]) -> Said
     requires { (length chunk.now ≤ chunk_room) × (out_room ≤ length out.old) }
     ensures { Delivered (takes_all table (at_desk desk) chunk.now)
         out.old result.desk result.wrote out.new }
 {
     let reply = text::desk::take_in(desk, table, chunk, out);
     let after = reply.desk;
-    say(after, reply.at, out)
+    say(rt, after, reply.at, out)
 }
 
 // The answer to a last line that lacks its line feed.
-fn answer_last(desk: Desk, table: Table, out: &mut [u8]) -> Said
+fn answer_last(rt: HostRuntime, desk: Desk, table: Table, out: &mut [u8]) -> Said
     requires { out_room ≤ length out.old }
     ensures { Delivered (ends table (at_desk desk)) out.old result.desk result.wrote out.new }
 {
     let ended = text::desk::last(desk, table, out);
     let after = ended.desk;
-    say(after, ended.at, out)
+    say(rt, after, ended.at, out)
 }
 
 // The cells of a desk's book. It takes what was said before, so that nothing is listed after a write that failed.
-fn list_cells(said: Said, out: &mut [u8]) -> Wrote
+fn list_cells(rt: HostRuntime, said: Said, out: &mut [u8]) -> Wrote
     requires { (said.wrote.fine ≡ true) × (out_room ≤ length out.old) }
     ensures { Stands (listing said.desk.book) 0 out.old result.handed out.new }
 {
@@ -152,7 +162,7 @@ fn list_cells(said: Said, out: &mut [u8]) -> Wrote
     let book = desk.book;
     let placed = text::listing::put_listing(out, book);
     let at = placed.at;
-    written(&out[..at])
+    written(rt, &out[..at])
 }
 
 // Whether nothing failed in a turn. A read that a signal interrupted is tried again.
@@ -170,39 +180,43 @@ fn reads_on(got: isize, fine: bool) -> bool
 }
 
 // Answers what a read left at the buffer's start, as many bytes as it answered, be it none.
-fn answer_read(desk: Desk, table: Table, buffer: &[u8], got: isize, out: &mut [u8]) -> Said
+fn answer_read(
+    rt: HostRuntime,
+    desk: Desk,
+    table: Table,
+    buffer: &[u8],
+    got: isize,
+    out: &mut [u8],
+) -> Said
     requires { (length buffer.now ≡ chunk_room) × (out_room ≤ length out.old) }
     ensures { Delivered (takes_all table (at_desk desk) (first_bytes got buffer.now))
         out.old result.desk result.wrote out.new }
 {
-    let n = io::count(got, buffer);
-    answer_chunk(desk, table, &buffer[..n], out)
+    let n = count(got, buffer);
+    answer_chunk(rt, desk, table, &buffer[..n], out)
 }
 
 // Reads once, and answers what came.
-fn read_some(desk: Desk, table: Table, out: &mut [u8]) -> Turn
+fn read_some(rt: HostRuntime, desk: Desk, table: Table, out: &mut [u8]) -> Turn
     requires { out_room ≤ length out.old }
     ensures { Turned table desk out.old result out.new }
 {
     let mut chunk = [0u8; CHUNK];
-    let got = libc::read(STDIN_FILENO, &mut chunk);
-    let interrupted = os::errno() == libc::EINTR;
-    if got < 0 && !interrupted {
-        os::fail(b"credit-book: standard input");
-    }
-    let said = answer_read(desk, table, &chunk, got, out);
+    let mut input = rt.stdin();
+    let read = read_once(rt, &mut input, &mut chunk, "credit-book: standard input");
+    let said = answer_read(rt, desk, table, &chunk, read.got, out);
     let d = said.desk;
     let wrote = said.wrote;
     Turn {
         desk: d,
-        got,
-        interrupted,
+        got: read.got,
+        interrupted: read.interrupted,
         wrote,
     }
 }
 
 // A proved loop has to end, and nothing says that the input does: it counts its turns up to a number no run reaches.
-fn read_all(table: Table, book: Book, out: &mut [u8]) -> Input
+fn read_all(rt: HostRuntime, table: Table, book: Book, out: &mut [u8]) -> Input
     requires { out_room ≤ length out.old }
     ensures { ReadBy table book result }
 {
@@ -211,7 +225,7 @@ fn read_all(table: Table, book: Book, out: &mut [u8]) -> Input
     let mut more = true;
     let mut fine = true;
     while more && turns < u64::MAX {
-        let turn = read_some(desk, table, out);
+        let turn = read_some(rt, desk, table, out);
         let wrote = turn.wrote;
         desk = turn.desk;
         fine = turn_fine(turn.got, turn.interrupted, wrote.fine);
@@ -234,17 +248,17 @@ fn at_end(more: bool, fine: bool) -> bool
 }
 
 // The end of the input: the last line's answer, then the cells.
-fn close(input: Input, table: Table, out: &mut [u8]) -> Closed
+fn close(rt: HostRuntime, input: Input, table: Table, out: &mut [u8]) -> Closed
     requires { (at_end input.more input.fine ≡ true) × (out_room ≤ length out.old) }
     ensures { ClosedBy table (at_desk input.desk) result }
 {
     let desk = input.desk;
-    let said = answer_last(desk, table, out);
+    let said = answer_last(rt, desk, table, out);
     let last = said.wrote;
     let after = said.desk;
     let book = after.book;
     if last.fine {
-        let listed = list_cells(said, out);
+        let listed = list_cells(rt, said, out);
         return Closed { last, listed, book };
     }
     let listed = unwritten();
@@ -264,13 +278,13 @@ fn unclosed(desk: Desk) -> Closed
     }
 }
 
-fn run(table: Table, book: Book, out: &mut [u8]) -> Ran
+fn run(rt: HostRuntime, table: Table, book: Book, out: &mut [u8]) -> Ran
     requires { out_room ≤ length out.old }
     ensures { RanBy table book result }
 {
-    let input = read_all(table, book, out);
+    let input = read_all(rt, table, book, out);
     if at_end(input.more, input.fine) {
-        let closed = close(input, table, out);
+        let closed = close(rt, input, table, out);
         return Ran { input, closed };
     }
     let desk = input.desk;
@@ -279,13 +293,13 @@ fn run(table: Table, book: Book, out: &mut [u8]) -> Ran
 }
 
 // The answer of a refused table or book, alone.
-fn refuse(r: Refusal, out: &mut [u8]) -> Wrote
+fn refuse(rt: HostRuntime, r: Refusal, out: &mut [u8]) -> Wrote
     requires { out_room ≤ length out.old }
     ensures { Stands (text_of (Answer.Refused r)) 0 out.old result.handed out.new }
 {
     let placed = text::answering::put_answer(out, 0, Answer::Refused(r));
     let at = placed.at;
-    written(&out[..at])
+    written(rt, &out[..at])
 }
 
 // No run: nothing is read.
@@ -303,20 +317,20 @@ fn unrun(book: Book) -> Ran
     Ran { input, closed }
 }
 
-fn program(out: &mut [u8]) -> Outcome
+fn program(rt: HostRuntime, out: &mut [u8]) -> Outcome
     requires { out_room ≤ length out.old }
     ensures { ProgramBy out.old result out.new }
 {
-    let asked = named_files();
+    let asked = named_files(rt);
     let mut table = figuring::grid::printed_grid();
-    let prepared = prepare(asked, &mut table);
+    let prepared = prepare(rt, asked, &mut table);
     let start = prepared.start;
     match start {
         Start::Ready => {
             let book = prepared.book;
-            let ran = run(table, book, out);
+            let ran = run(rt, table, book, out);
             let closed = ran.closed;
-            let saved = save(asked.write, closed, out);
+            let saved = save(rt, asked.write, closed, out);
             let answer = unwritten();
             Outcome {
                 asked,
@@ -328,7 +342,7 @@ fn program(out: &mut [u8]) -> Outcome
         }
         Start::Refused(r) => {
             let book = prepared.book;
-            let answer = refuse(r, out);
+            let answer = refuse(rt, r, out);
             let ran = unrun(book);
             let saved = unwritten();
             Outcome {
@@ -354,7 +368,7 @@ fn program(out: &mut [u8]) -> Outcome
     }
 }
 
-fn main() {
+fn main(rt: HostRuntime) {
     let mut out = [0u8; OUT_ROOM];
-    program(&mut out);
+    program(rt, &mut out);
 }

@@ -7,82 +7,96 @@ ghost use Rattle.credit_book.specs.Saving.{SavedBy, SavesBook};
 
 use crate::{Closed, Wrote, unwritten};
 use book::ledger::Book;
-use libc::STDERR_FILENO;
-use text::placing::put_bytes;
+use std::fs::{File, OpenOptions};
+use std::io::{ErrorKind, Write};
+use std::os::unix::fs::OpenOptionsExt;
+use std::{fs, io};
+use streams::{PATH_ROOM, named_path, tell};
 use text::writing::write_book;
 
-// The new file's name is the file's with this after it; the system puts other letters for the six.
-const ENDING: [u8; 7] = [b'.', b'X', b'X', b'X', b'X', b'X', b'X'];
+// The new file's name is the file's with a dot after it, and a number of six digits that no other file has.
+const ENDING: usize = 7;
 
-fn tell() {
-    os::fail(b"credit-book: --write");
+const NUMBERS: u32 = 1_000_000;
+
+// What is told that failed.
+const WHAT: &str = "credit-book: --write";
+
+// Whether all went well. If not, that is told.
+fn is_fine(rt: HostRuntime, done: io::Result<()>) -> bool {
+    match done {
+        Ok(()) => true,
+        Err(why) => {
+            tell(rt, WHAT, &why);
+            false
+        }
+    }
 }
 
-// Writes a text to an open file, syncs it and closes it. Whether all went well.
-fn fill_file(fd: i32, text: &[u8]) -> bool {
-    if !io::write_all(fd, text) {
-        tell();
-        libc::close(fd);
-        return false;
-    }
-    if libc::fsync(fd) != 0 {
-        tell();
-        libc::close(fd);
-        return false;
-    }
-    if libc::close(fd) != 0 {
-        tell();
-        return false;
-    }
-    true
+// Writes a text to an open file, syncs it and closes it.
+fn fill_file(mut file: File, text: &[u8]) -> io::Result<()> {
+    file.write_all(text)?;
+    file.sync_all()
 }
 
-// A new file of the name `beside`, whose last six letters are X, with the text; then it is given the name.
-fn replace(name: &[u8], beside: &mut [u8], text: &[u8]) -> bool {
-    let fd = os::create_temp(beside);
-    if fd < 0 {
-        tell();
-        return false;
+// A new file beside the one of a name, open for writing, and for its owner alone; and its own name.
+fn create_temp(rt: HostRuntime, name: &str) -> io::Result<(File, String)> {
+    for number in 0..NUMBERS {
+        let beside = format!(in rt.alloc(); "{name}.{number:06}")?;
+        let made = OpenOptions::new()
+            .write(true)
+            .create_new(true)
+            .mode(0o600)
+            .open(&rt, beside.as_str());
+        match made {
+            Ok(file) => return Ok((file, beside)),
+            Err(why) => {
+                if why.kind() != ErrorKind::AlreadyExists {
+                    return Err(why);
+                }
+            }
+        }
     }
-    if !fill_file(fd, text) {
-        os::unlink(beside);
-        return false;
+    Err(io::Error::from(ErrorKind::AlreadyExists))
+}
+
+// A new file beside the one of a name, with the text; then it is given the name.
+fn replace(rt: HostRuntime, name: &str, text: &[u8]) -> io::Result<()> {
+    let (file, beside) = create_temp(rt, name)?;
+    let mut done = fill_file(file, text);
+    if done.is_ok() {
+        done = fs::rename(&rt, beside.as_str(), name);
     }
-    if os::rename(beside, name) != 0 {
-        tell();
-        os::unlink(beside);
-        return false;
+    if done.is_err() {
+        let _ = fs::remove_file(&rt, beside.as_str());
     }
-    true
+    done
 }
 
 // Puts a text in the place of the file that an argument names. Whether all went well.
-pub fn save_named(name: usize, text: &[u8]) -> bool {
-    let mut path = io::buffer();
-    let n = os::arg(name, &mut path);
-    let mut beside = io::buffer();
-    let named = put_bytes(&mut beside, 0, &path[..n]);
-    let ended = put_bytes(&mut beside, named.at, &ENDING);
-    if !ended.fits {
-        io::write_all(
-            STDERR_FILENO,
-            b"credit-book: --write: the name is too long\n",
-        );
-        return false;
+pub fn save_named(rt: HostRuntime, name: usize, text: &[u8]) -> bool {
+    let mut buffer = [0u8; PATH_ROOM];
+    match named_path(rt, name, &mut buffer) {
+        Ok(path) => {
+            if path.len() > PATH_ROOM - ENDING {
+                let _ = eprintln!(rt; "{WHAT}: the name is too long");
+                return false;
+            }
+            is_fine(rt, replace(rt, path, text))
+        }
+        Err(why) => is_fine(rt, Err(why)),
     }
-    let end = ended.at;
-    replace(&path[..n], &mut beside[..end], text)
 }
 
 // Hands the text of a book to the file that an argument names.
-fn save_book(name: usize, book: Book, out: &mut [u8]) -> Wrote
+fn save_book(rt: HostRuntime, name: usize, book: Book, out: &mut [u8]) -> Wrote
     requires { out_room ≤ length out.old }
     ensures { SavesBook book result out.new }
 {
     let wrote = write_book(out, book);
     match wrote {
         text::writing::Wrote::Length(n) => {
-            let fine = save_named(name, &out[..n]);
+            let fine = save_named(rt, name, &out[..n]);
             Wrote { handed: n, fine }
         }
         text::writing::Wrote::Refused(_) => unwritten(),
@@ -90,7 +104,7 @@ fn save_book(name: usize, book: Book, out: &mut [u8]) -> Wrote
 }
 
 // The book after a run, unless no file is named or something failed before.
-pub fn save(name: usize, closed: Closed, out: &mut [u8]) -> Wrote
+pub fn save(rt: HostRuntime, name: usize, closed: Closed, out: &mut [u8]) -> Wrote
     requires { out_room ≤ length out.old }
     ensures { SavedBy name closed result }
 {
@@ -102,5 +116,5 @@ pub fn save(name: usize, closed: Closed, out: &mut [u8]) -> Wrote
         return unwritten();
     }
     let book = closed.book;
-    save_book(name, book, out)
+    save_book(rt, name, book, out)
 }

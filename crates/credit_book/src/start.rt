@@ -9,9 +9,8 @@ use crate::std_file::{TableFile, load_std_file};
 use book::answers::Refusal;
 use book::ledger::{Book, fresh};
 use figuring::tables::Table;
-use libc::STDERR_FILENO;
 
-#[derive(Drop)]
+#[derive(Clone, Copy)]
 pub enum Start {
     Ready,
     Refused(Refusal),
@@ -20,7 +19,7 @@ pub enum Start {
 }
 
 // Whether a run may start, what became of the two files, and the book to begin with.
-#[derive(Drop)]
+#[derive(Clone, Copy)]
 pub struct Prepared {
     pub start: Start,
     pub table: TableFile,
@@ -42,10 +41,10 @@ fn unprepared(start: Start, table: TableFile) -> Prepared
 }
 
 // With a table at hand, by what became of the book's file.
-fn with_book(name: usize, table: TableFile) -> Prepared
+fn with_book(rt: HostRuntime, name: usize, table: TableFile) -> Prepared
     ensures { WithBook name table result }
 {
-    let first = first_book(name);
+    let first = first_book(rt, name);
     let book = first.book;
     let file = first.file;
     match file {
@@ -71,19 +70,16 @@ fn with_book(name: usize, table: TableFile) -> Prepared
 }
 
 // The lent table becomes that of std.txt, or stays as it was.
-pub fn prepare(asked: Asked, table: &mut Table) -> Prepared
+pub fn prepare(rt: HostRuntime, asked: Asked, table: &mut Table) -> Prepared
     ensures { PreparedBy asked table.old result table.new }
 {
     if !asked.known {
-        io::write_all(
-            STDERR_FILENO,
-            b"credit-book: takes --read FILE and --write FILE\n",
-        );
+        let _ = eprintln!(rt; "credit-book: takes --read FILE and --write FILE");
         return unprepared(Start::Failed, TableFile::Absent);
     }
-    let found = load_std_file(table);
+    let found = load_std_file(rt, table);
     match found {
-        TableFile::Absent | TableFile::Loaded => with_book(asked.read, found),
+        TableFile::Absent | TableFile::Loaded => with_book(rt, asked.read, found),
         TableFile::Refused(r) => unprepared(Start::Refused(r), found),
         TableFile::Unreadable => unprepared(Start::Failed, found),
     }

@@ -6,11 +6,18 @@ ghost use Rattle.credit_book.specs.StdFile.{FromFile, Opened, StdFileBy};
 use crate::files::{end_reading, read_text};
 use book::answers::Refusal;
 use figuring::tables::Table;
+use std::fs::File;
+use std::io::ErrorKind;
+use std::{fs, io};
+use streams::tell;
 use text::loading::Loading;
 use text::tables::TABLE_ROOM;
 
+// What is told that failed.
+const WHAT: &str = "credit-book: std.txt";
+
 // What became of the file.
-#[derive(Drop)]
+#[derive(Clone, Copy)]
 pub enum TableFile {
     // There is none.
     Absent,
@@ -22,12 +29,12 @@ pub enum TableFile {
 }
 
 // The table of a file that was opened.
-fn load_file(fd: i32, table: &mut Table) -> TableFile
+fn load_file(rt: HostRuntime, mut file: File, table: &mut Table) -> TableFile
     ensures { FromFile result table.new }
 {
     let mut text = [0u8; TABLE_ROOM];
-    let read = read_text(fd, &mut text);
-    if !end_reading(fd, read, b"credit-book: std.txt") {
+    let read = read_text(rt, &mut file, WHAT, &mut text);
+    if !end_reading(rt, file, read, WHAT) {
         return TableFile::Unreadable;
     }
     let n = read.len;
@@ -38,25 +45,40 @@ fn load_file(fd: i32, table: &mut Table) -> TableFile
     }
 }
 
-// By what the opening answered: a descriptor, or a negative number, and whether there is no such file.
-fn load_opened(fd: i32, absent: bool, table: &mut Table) -> TableFile
-    ensures { Opened fd absent table.old result table.new }
+// By what the opening answered: the file, or why it was not opened, and whether there is no such file.
+fn load_opened(
+    rt: HostRuntime,
+    opened: io::Result<File>,
+    absent: bool,
+    table: &mut Table,
+) -> TableFile
+    ensures { Opened opened absent table.old result table.new }
 {
-    if fd < 0 {
-        if absent {
-            return TableFile::Absent;
+    match opened {
+        Ok(file) => load_file(rt, file, table),
+        Err(why) => {
+            if absent {
+                return TableFile::Absent;
+            }
+            tell(rt, WHAT, &why);
+            TableFile::Unreadable
         }
-        os::fail(b"credit-book: std.txt");
-        return TableFile::Unreadable;
     }
-    load_file(fd, table)
+}
+
+// Whether an opening failed since there is no such file.
+fn is_absent(opened: &io::Result<File>) -> bool {
+    match opened {
+        Ok(_) => false,
+        Err(why) => why.kind() == ErrorKind::NotFound,
+    }
 }
 
 // The lent table becomes that of std.txt, or stays as it was.
-pub fn load_std_file(table: &mut Table) -> TableFile
+pub fn load_std_file(rt: HostRuntime, table: &mut Table) -> TableFile
     ensures { StdFileBy table.old result table.new }
 {
-    let fd = os::open_read(b"std.txt");
-    let absent = os::errno() == libc::ENOENT;
-    load_opened(fd, absent, table)
+    let opened = fs::open(&rt, "std.txt");
+    let absent = is_absent(&opened);
+    load_opened(rt, opened, absent, table)
 }

@@ -3,67 +3,69 @@
 use crate::say;
 use book::ledger::{Book, fresh};
 use figuring::tables::Table;
+use std::fs;
+use std::fs::File;
+use std::io::ErrorKind;
+use streams::read_full;
 use text::loading::Loading;
-use text::placing::put_bytes;
 use text::reading::{TEXT_ROOM, read_book};
 use text::tables::TABLE_ROOM;
 
 // Whether there is a NAME.book, what reading it gave, and the book to begin with: that one, or else a fresh one.
-#[derive(Drop)]
+#[derive(Clone, Copy)]
 pub struct FirstBook {
     pub stored: bool,
     pub loading: Loading,
     pub book: Book,
 }
 
-// Opens the file whose name is a name of n bytes with an ending behind it; answers a number below 0 where there is none.
-fn open_beside(name: [u8; 4096], n: usize, ending: &[u8]) -> i32 {
-    let mut path = name;
-    let named = put_bytes(&mut path, n, ending);
-    if !named.fits {
-        return -1;
-    }
-    let end = named.at;
-    let fd = os::open_read(&path[..end]);
-    if fd < 0 {
-        if os::errno() != libc::ENOENT {
-            say(b" unreadable");
+// Opens the file whose name is a name with an ending behind it; nothing where there is none.
+fn open_beside(rt: HostRuntime, name: &str, ending: &str) -> Option<File> {
+    let Ok(path) = format!(in rt.alloc(); "{name}{ending}") else {
+        say(rt, b" unreadable");
+        return None;
+    };
+    match fs::open(&rt, path.as_str()) {
+        Ok(file) => Some(file),
+        Err(why) => {
+            if why.kind() != ErrorKind::NotFound {
+                say(rt, b" unreadable");
+            }
+            None
         }
     }
-    fd
 }
 
-pub(crate) fn load_std(name: [u8; 4096], n: usize, table: &mut Table) -> Loading {
-    let fd = open_beside(name, n, b".std");
-    if fd < 0 {
-        return Loading::Loaded;
+pub(crate) fn load_std(rt: HostRuntime, name: &str, table: &mut Table) -> Loading {
+    match open_beside(rt, name, ".std") {
+        None => Loading::Loaded,
+        Some(mut file) => {
+            let mut text = [0u8; TABLE_ROOM];
+            let got = read_full(&mut file, &mut text);
+            text::tables::load_table(&text[..got], table)
+        }
     }
-    let mut text = [0u8; TABLE_ROOM];
-    let got = io::read_full(fd, &mut text);
-    libc::close(fd);
-    text::tables::load_table(&text[..got], table)
 }
 
 // One byte more than the longest text of a book is read: that decides of any longer one.
-pub(crate) fn first_book(name: [u8; 4096], n: usize) -> FirstBook {
-    let fd = open_beside(name, n, b".book");
-    if fd < 0 {
-        let book = fresh();
-        return FirstBook {
+pub(crate) fn first_book(rt: HostRuntime, name: &str) -> FirstBook {
+    match open_beside(rt, name, ".book") {
+        None => FirstBook {
             stored: false,
             loading: Loading::Loaded,
-            book,
-        };
+            book: fresh(),
+        },
+        Some(file) => stored_book(file),
     }
+}
+
+fn stored_book(mut file: File) -> FirstBook {
     let mut text = [0u8; TEXT_ROOM];
-    let got = io::read_full(fd, &mut text);
-    libc::close(fd);
+    let got = read_full(&mut file, &mut text);
     let read = read_book(fresh(), &text[..got]);
-    let loading = read.loading;
-    let book = read.book;
     FirstBook {
         stored: true,
-        loading,
-        book,
+        loading: read.loading,
+        book: read.book,
     }
 }

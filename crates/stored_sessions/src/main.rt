@@ -3,70 +3,81 @@
 // begins with. Writes a line `== NAME`, then what the session gives and, where there is a NAME.book, the text of the book
 // at its end; or `(no N)` alone where the table or the book is refused. The file `stdout` beside has what the second
 // implementation wrote.
+#![tactic(auto)]
+
 mod files;
 mod sessions;
 
 use book::answers::refusal_number;
 use figuring::grid::printed_grid;
 use files::{first_book, load_std};
-use libc::STDOUT_FILENO;
 use sessions::{ROOM, answer_session};
+use std::env::{Env, FillError};
+use std::fs;
+use std::fs::File;
+use streams::{PATH_ROOM, named_path, tell};
 use text::loading::Loading;
 
-fn say(text: &[u8]) {
-    if !io::write_all(STDOUT_FILENO, text) {
-        os::fail(b"stored_sessions: standard output");
+fn say(rt: HostRuntime, text: &[u8]) {
+    if let Err(why) = rt.write_all(text) {
+        tell(rt, "stored_sessions: standard output", &why);
     }
 }
 
-fn say_refusal(number: u64) {
-    say(b"\n(no ");
-    io::print_decimal(STDOUT_FILENO, number);
-    say(b")\n");
+fn say_refusal(rt: HostRuntime, number: u64) {
+    if let Err(why) = print!(rt; "\n(no {number})\n") {
+        tell(rt, "stored_sessions: standard output", &why);
+    }
 }
 
-// The session of an open file, whose name has n bytes: the table first, then the book.
-fn answer_file(fd: i32, name: [u8; 4096], n: usize, out: &mut [u8]) {
+// The session of an open file of this name: the table first, then the book.
+fn answer_file(rt: HostRuntime, file: File, name: &str, out: &mut [u8]) {
     let mut table = printed_grid();
-    let loading = load_std(name, n, &mut table);
+    let loading = load_std(rt, name, &mut table);
     if let Loading::Refused(why) = loading {
-        say_refusal(refusal_number(why));
+        say_refusal(rt, refusal_number(why));
         return;
     }
-    let first = first_book(name, n);
+    let first = first_book(rt, name);
     let reading = first.loading;
     if let Loading::Refused(why) = reading {
-        say_refusal(refusal_number(why));
+        say_refusal(rt, refusal_number(why));
         return;
     }
-    answer_session(fd, table, first, out);
+    answer_session(rt, file, table, first, out);
 }
 
 // A file that is missing is said where the session's text would stand.
-fn answer_argument(i: usize, out: &mut [u8]) {
-    let mut name = io::buffer();
-    let n = os::arg(i, &mut name);
-    say(b"== ");
-    say(&name[..n]);
-    let fd = os::open_read(&name[..n]);
-    if fd < 0 {
-        say(b" missing\n");
+fn answer_argument(rt: HostRuntime, i: usize, out: &mut [u8]) {
+    let mut buffer = [0u8; PATH_ROOM];
+    say(rt, b"== ");
+    let Ok(name) = named_path(rt, i, &mut buffer) else {
+        say(rt, b" missing\n");
         return;
-    }
-    answer_file(fd, name, n, out);
-    libc::close(fd);
-}
-
-fn answer_all(out: &mut [u8]) {
-    let count = os::arg_count();
-    let mut i: usize = 1;
-    while i < count {
-        answer_argument(i, out);
-        i += 1;
+    };
+    say(rt, name.as_bytes());
+    match fs::open(&rt, name) {
+        Ok(file) => answer_file(rt, file, name, out),
+        Err(_) => say(rt, b" missing\n"),
     }
 }
 
-fn main() {
+// Whether there is such an argument.
+fn is_argument(rt: HostRuntime, i: usize) -> bool {
+    let mut buffer = [0u8; 1];
+    !matches!(rt.arg(i, &mut buffer), Err(FillError::NotPresent))
+}
+
+fn answer_all(rt: HostRuntime, out: &mut [u8]) {
+    for i in 1..usize::MAX {
+        if !is_argument(rt, i) {
+            return;
+        }
+        answer_argument(rt, i, out);
+    }
+}
+
+fn main(rt: HostRuntime) {
     let mut out = [0u8; ROOM];
-    answer_all(&mut out);
+    answer_all(rt, &mut out);
 }

@@ -5,6 +5,8 @@ use crate::{say, say_refusal};
 use book::answers::refusal_number;
 use book::ledger::Book;
 use figuring::tables::Table;
+use std::fs::File;
+use streams::read_full;
 use text::answering::ANSWER_ROOM;
 use text::desk::{Desk, last, open_desk, take_in};
 use text::listing::{LISTING_ROOM, put_listing};
@@ -18,62 +20,68 @@ const LONGEST: usize = 32_768;
 pub(crate) const ROOM: usize = ANSWER_ROOM * (LONGEST + 1) + LISTING_ROOM;
 
 // A session that is too long is said where its text would stand, so that no run passes without it.
-pub(crate) fn answer_session(fd: i32, table: Table, first: FirstBook, out: &mut [u8]) {
+pub(crate) fn answer_session(
+    rt: HostRuntime,
+    mut file: File,
+    table: Table,
+    first: FirstBook,
+    out: &mut [u8],
+) {
     let mut input = [0u8; LONGEST + 1];
-    let n = io::read_full(fd, &mut input);
+    let n = read_full(&mut file, &mut input);
     if n > LONGEST {
-        say(b" too long\n");
+        say(rt, b" too long\n");
         return;
     }
-    say(b"\n");
+    say(rt, b"\n");
     let book = first.book;
     if first.stored {
-        say_stored(table, book, &input[..n], out);
+        say_stored(rt, table, book, &input[..n], out);
     } else {
-        say_whole(table, book, &input[..n], out);
+        say_whole(rt, table, book, &input[..n], out);
     }
 }
 
-fn say_whole(table: Table, book: Book, input: &[u8], out: &mut [u8]) {
+fn say_whole(rt: HostRuntime, table: Table, book: Book, input: &[u8], out: &mut [u8]) {
     let p = session(table, book, input, out);
     let w = p.at;
-    say(&out[..w]);
+    say(rt, &out[..w]);
 }
 
-fn say_stored(table: Table, book: Book, input: &[u8], out: &mut [u8]) {
-    let desk = say_lines(open_desk(book), table, input, out);
-    let after = say_last(desk, table, out);
-    say_listing(after, out);
-    say_book(after, out);
+fn say_stored(rt: HostRuntime, table: Table, book: Book, input: &[u8], out: &mut [u8]) {
+    let desk = say_lines(rt, open_desk(book), table, input, out);
+    let after = say_last(rt, desk, table, out);
+    say_listing(rt, after, out);
+    say_book(rt, after, out);
 }
 
 // The answers to the lines that end in the input, and the desk after them.
-fn say_lines(desk: Desk, table: Table, input: &[u8], out: &mut [u8]) -> Desk {
+fn say_lines(rt: HostRuntime, desk: Desk, table: Table, input: &[u8], out: &mut [u8]) -> Desk {
     let reply = take_in(desk, table, input, out);
     let w = reply.at;
-    say(&out[..w]);
+    say(rt, &out[..w]);
     reply.desk
 }
 
 // The answer to a last line that lacks its line feed, and the book after it.
-fn say_last(desk: Desk, table: Table, out: &mut [u8]) -> Book {
+fn say_last(rt: HostRuntime, desk: Desk, table: Table, out: &mut [u8]) -> Book {
     let reply = last(desk, table, out);
     let w = reply.at;
-    say(&out[..w]);
+    say(rt, &out[..w]);
     let ended = reply.desk;
     ended.book
 }
 
-fn say_listing(book: Book, out: &mut [u8]) {
+fn say_listing(rt: HostRuntime, book: Book, out: &mut [u8]) {
     let p = put_listing(out, book);
     let w = p.at;
-    say(&out[..w]);
+    say(rt, &out[..w]);
 }
 
-fn say_book(book: Book, out: &mut [u8]) {
+fn say_book(rt: HostRuntime, book: Book, out: &mut [u8]) {
     let wrote = write_book(out, book);
     match wrote {
-        Wrote::Length(n) => say(&out[..n]),
-        Wrote::Refused(why) => say_refusal(refusal_number(why)),
+        Wrote::Length(n) => say(rt, &out[..n]),
+        Wrote::Refused(why) => say_refusal(rt, refusal_number(why)),
     }
 }

@@ -35,7 +35,7 @@ pub(crate) const RECORD: usize = TABLE + ROW * YEARS;
 const AFTER: usize = 8 * 4;
 
 // What a record asks: a call, a text of so many bytes, or what is none.
-#[derive(Drop)]
+#[derive(Clone, Copy)]
 pub enum Asked {
     Post(Call),
     Text(u64),
@@ -43,7 +43,7 @@ pub enum Asked {
 }
 
 // An answer in numbers: the refusal's, or 0 and the values.
-#[derive(Drop)]
+#[derive(Clone, Copy)]
 pub struct Figures {
     pub refusal: u64,
     pub first: u64,

@@ -7,7 +7,6 @@ use mathlib.Core.List.{List}
 use lib.ListN.{length, take}
 use borrow.Author.Tests.{le-ltb}
 use Rattle.book.specs.Soundness.{sound}
-use Rattle.book.specs.Refusals.{first_refusal}
 use Rattle.book.specs.Rules.{head_rows}
 use Rattle.book.specs.declared.ledger.Book.{Book}
 use Rattle.book.specs.declared.answers.Refusal.{Refusal}
@@ -20,7 +19,7 @@ use Rattle.text.specs.Writing.{writing_rows, writing, wrote_by, wrote_of, buffer
 use Rattle.text.proofs.BookRoomLaws.{room}
 use Rattle.text.proofs.WritingLaws.{written_front}
 use Rattle.credit_book.specs.declared.Wrote.{Wrote}
-use Rattle.credit_book.specs.Saving.{saved_text, SavesBook}
+use Rattle.credit_book.specs.Saving.{SavesBook}
 
 -- ---- what writing answers
 its_length : {n m : ℕ} → text.Wrote.Length n ≡ text.Wrote.Length m → n ≡ m

@@ -1,0 +1,1 @@
+-- The rows lie within the record.

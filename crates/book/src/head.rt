@@ -7,6 +7,7 @@ ghost use Rattle.book.specs.Rules.{fit_row, head_rows};
 
 use crate::answers::{Refusal, Verdict};
 
+#[tactic(auto, unfolding(crate::specs::Rules::head_rows))]
 pub(crate) fn head_verdict(sound: bool) -> Verdict
     ensures { result ≡ first_refusal (head_rows sound []) }
 {
@@ -17,6 +18,7 @@ pub(crate) fn head_verdict(sound: bool) -> Verdict
 }
 
 // The head of a filing or an amendment.
+#[tactic(auto, unfolding(crate::specs::Rules::head_rows))]
 pub(crate) fn filing_head(sound: bool, fit: bool) -> Verdict
     ensures { result ≡ first_refusal (head_rows sound (fit_row fit ∷ [])) }
 {

@@ -18,7 +18,7 @@ use book::answers::Refusal;
 use book::ledger::{Book, fresh};
 use book::soundness::is_sound;
 
-// So many bytes of a text decide, whatever its length: `first_bytes_lem` of Room. A reader needs no more of them.
+// So many bytes of a text decide, whatever its length: `first_bytes` of Room. A reader needs no more of them.
 pub const TEXT_ROOM: usize = BOOK_ROOM + 1;
 
 // What reading answers, and the book after it.

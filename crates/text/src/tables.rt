@@ -14,7 +14,7 @@ use figuring::grid::{COLUMNS, YEARS};
 use figuring::tables::{Table, row_fits};
 use figuring::years::FIRST_YEAR;
 
-// So many bytes of a text decide, whatever its length: `first_bytes_lem` of TableTexts. A reader needs no more of them.
+// So many bytes of a text decide, whatever its length: `first_bytes` of TableTexts. A reader needs no more of them.
 pub const TABLE_ROOM: usize = 3_865;
 
 // The row of a line, if it is one.

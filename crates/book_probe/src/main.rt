@@ -14,7 +14,7 @@ ghost use Rattle.std.specs.Prelude.{◌≡◌, length};
 ghost use Rattle.book_probe.specs.Sizes.{answer_bytes, record_bytes, text_bytes};
 
 use records::{Asked, RECORD, answer_call, asked_of};
-use streams::read_full;
+use streams::reading::read_full;
 use texts::text_turn;
 
 // Reads one record and writes its answer; false at the input's end, at a kind that is not known or too many bytes, or if a

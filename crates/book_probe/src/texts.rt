@@ -7,7 +7,7 @@ ghost use Rattle.book_probe.specs.Sizes.{answer_bytes, record_bytes, text_bytes}
 use crate::records::{Figures, book_of, put_answer};
 use book::answers::refusal_number;
 use book::soundness::is_sound;
-use streams::read_full;
+use streams::reading::read_full;
 use text::loading::Loading;
 use text::reading::{TEXT_ROOM, read_book};
 use text::writing::{Wrote, write_book};

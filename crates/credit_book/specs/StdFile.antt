@@ -1,7 +1,9 @@
 -- Card 7: "The file `std.txt` (built-in table where it is absent)": what the functions that read it hold to.
-use Rattle.std.specs.Prelude.{Bool, true, false, ◌≡◌, Result, Ok, Err}
+use Rattle.std.specs.Prelude.{Bool, true, false, ◌≡◌, ◌↔◌, IsTrue, Result, Ok, Err}
+use Rattle.std.specs.IoError.{error_kind}
 use Rattle.std.specs.declared.fs.File.{File}
 use Rattle.std.specs.declared.io.Error.{Error}
+use Rattle.std.specs.declared.io.ErrorKind.{ErrorKind}
 use Rattle.figuring.specs.Tables.{Table}
 use Rattle.text.specs.Loads.{Read, accepted, refused}
 use Rattle.text.specs.TableText.{table_of, table_room}
@@ -26,8 +28,14 @@ Opened (Ok file) absent t r t' = FromFile r t'
 Opened (Err why) true t r t' = (r ≡ TableFile.Absent) × (t' ≡ t)
 Opened (Err why) false t r t' = r ≡ TableFile.Unreadable
 
+-- that there is no such file, as the error says by its kind
+abbrev pub NotThere : Result File Error → Type 0
+NotThere (Ok file) = ⊥
+NotThere (Err why) = error_kind why ≡ ErrorKind.NotFound
+
 -- what became of std.txt: there are such answers
 pub record StdFileBy (t : Table) (r : TableFile) (t' : Table) : Type 0 where
   pub opening : Result File Error
   pub absent : Bool
+  pub absent_is : IsTrue absent ↔ NotThere opening
   pub opened : Opened opening absent t r t'

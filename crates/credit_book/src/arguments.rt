@@ -4,7 +4,7 @@ ghost use Rattle.std.specs.Prelude.{◌≤◌};
 use std::env::{Env, FillError};
 use std::fs::File;
 use std::{fs, io};
-use streams::{PATH_ROOM, named_path};
+use streams::arguments::{PATH_ROOM, path_of};
 
 const WORD_ROOM: usize = 8;
 
@@ -93,6 +93,7 @@ pub fn named_files(rt: HostRuntime) -> Asked {
 // Opens the file that an argument names, for reading.
 pub fn open_named(rt: HostRuntime, name: usize) -> io::Result<File> {
     let mut buffer = [0u8; PATH_ROOM];
-    let path = named_path(rt, name, &mut buffer)?;
+    let answer = rt.arg(name, &mut buffer);
+    let path = path_of(answer, &buffer)?;
     fs::open(&rt, path)
 }

@@ -10,7 +10,7 @@ use crate::files::{end_reading, read_text};
 use book::answers::Refusal;
 use book::ledger::{Book, fresh};
 use std::fs::File;
-use streams::tell;
+use streams::telling::tell;
 use text::loading::Loading;
 use text::reading::{TEXT_ROOM, read_book};
 
@@ -79,7 +79,7 @@ pub fn first_book(rt: HostRuntime, name: usize) -> FirstBook
     match open_named(rt, name) {
         Ok(file) => load_book(rt, file),
         Err(why) => {
-            tell(rt, WHAT, &why);
+            let _ = tell(&mut rt.stderr(), WHAT, &why);
             no_book(BookFile::Unreadable)
         }
     }

@@ -5,7 +5,7 @@ ghost use Rattle.credit_book.specs.Turns.{at_end};
 ghost use Rattle.credit_book.specs.Files.{AddedBy, TextReadBy, file_on};
 
 use std::fs::File;
-use streams::{count, read_once};
+use streams::reading::{count, read_once};
 
 // What a read answered, whether a signal interrupted it, and the place after its bytes.
 #[derive(Clone, Copy)]

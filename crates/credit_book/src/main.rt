@@ -27,7 +27,8 @@ use book::ledger::Book;
 use figuring::tables::Table;
 use saving::save;
 use start::{Prepared, Start, prepare};
-use streams::{count, read_once, tell};
+use streams::reading::{count, read_once};
+use streams::telling::tell;
 use text::answering::ANSWER_ROOM;
 use text::desk::Desk;
 
@@ -108,7 +109,7 @@ fn took_all(rt: HostRuntime, text: &[u8]) -> bool {
     match rt.write_all(text) {
         Ok(()) => true,
         Err(why) => {
-            tell(rt, "credit-book: standard output", &why);
+            let _ = tell(&mut rt.stderr(), "credit-book: standard output", &why);
             false
         }
     }

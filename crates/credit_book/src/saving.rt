@@ -7,11 +7,13 @@ ghost use Rattle.credit_book.specs.Saving.{SavedBy, SavesBook};
 
 use crate::{Closed, Wrote, unwritten};
 use book::ledger::Book;
+use std::env::Env;
 use std::fs::{File, OpenOptions};
 use std::io::{ErrorKind, Write};
 use std::os::unix::fs::OpenOptionsExt;
 use std::{fs, io};
-use streams::{PATH_ROOM, named_path, tell};
+use streams::arguments::{PATH_ROOM, path_of};
+use streams::telling::tell;
 use text::writing::write_book;
 
 // The new file's name is the file's with a dot after it, and a number of six digits that no other file has.
@@ -27,7 +29,7 @@ fn is_fine(rt: HostRuntime, done: io::Result<()>) -> bool {
     match done {
         Ok(()) => true,
         Err(why) => {
-            tell(rt, WHAT, &why);
+            let _ = tell(&mut rt.stderr(), WHAT, &why);
             false
         }
     }
@@ -76,7 +78,8 @@ fn replace(rt: HostRuntime, name: &str, text: &[u8]) -> io::Result<()> {
 // Puts a text in the place of the file that an argument names. Whether all went well.
 pub fn save_named(rt: HostRuntime, name: usize, text: &[u8]) -> bool {
     let mut buffer = [0u8; PATH_ROOM];
-    match named_path(rt, name, &mut buffer) {
+    let answer = rt.arg(name, &mut buffer);
+    match path_of(answer, &buffer) {
         Ok(path) => {
             if path.len() > PATH_ROOM - ENDING {
                 let _ = eprintln!(rt; "{WHAT}: the name is too long");

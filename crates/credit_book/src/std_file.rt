@@ -1,7 +1,8 @@
 // Card 7: "The file `std.txt` (built-in table where it is absent)", read before anything else. Of a file of any size its
 // first bytes decide, and no more of them are read.
 // The contracts speak of values, since none can say what a call of the system read (specs/StdFile.antt).
-ghost use Rattle.credit_book.specs.StdFile.{FromFile, Opened, StdFileBy};
+ghost use Rattle.std.specs.Prelude.{◌↔◌, IsTrue};
+ghost use Rattle.credit_book.specs.StdFile.{FromFile, NotThere, Opened, StdFileBy};
 
 use crate::files::{end_reading, read_text};
 use book::answers::Refusal;
@@ -9,7 +10,7 @@ use figuring::tables::Table;
 use std::fs::File;
 use std::io::ErrorKind;
 use std::{fs, io};
-use streams::tell;
+use streams::telling::tell;
 use text::loading::Loading;
 use text::tables::TABLE_ROOM;
 
@@ -60,14 +61,16 @@ fn load_opened(
             if absent {
                 return TableFile::Absent;
             }
-            tell(rt, WHAT, &why);
+            let _ = tell(&mut rt.stderr(), WHAT, &why);
             TableFile::Unreadable
         }
     }
 }
 
 // Whether an opening failed since there is no such file.
-fn is_absent(opened: &io::Result<File>) -> bool {
+fn is_absent(opened: &io::Result<File>) -> bool
+    ensures { IsTrue result ↔ NotThere opened.now }
+{
     match opened {
         Ok(_) => false,
         Err(why) => why.kind() == ErrorKind::NotFound,

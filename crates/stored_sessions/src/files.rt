@@ -6,7 +6,7 @@ use figuring::tables::Table;
 use std::fs;
 use std::fs::File;
 use std::io::ErrorKind;
-use streams::read_full;
+use streams::reading::read_full;
 use text::loading::Loading;
 use text::reading::{TEXT_ROOM, read_book};
 use text::tables::TABLE_ROOM;

@@ -15,18 +15,19 @@ use sessions::{ROOM, answer_session};
 use std::env::{Env, FillError};
 use std::fs;
 use std::fs::File;
-use streams::{PATH_ROOM, named_path, tell};
+use streams::arguments::{PATH_ROOM, path_of};
+use streams::telling::tell;
 use text::loading::Loading;
 
 fn say(rt: HostRuntime, text: &[u8]) {
     if let Err(why) = rt.write_all(text) {
-        tell(rt, "stored_sessions: standard output", &why);
+        let _ = tell(&mut rt.stderr(), "stored_sessions: standard output", &why);
     }
 }
 
 fn say_refusal(rt: HostRuntime, number: u64) {
     if let Err(why) = print!(rt; "\n(no {number})\n") {
-        tell(rt, "stored_sessions: standard output", &why);
+        let _ = tell(&mut rt.stderr(), "stored_sessions: standard output", &why);
     }
 }
 
@@ -51,7 +52,8 @@ fn answer_file(rt: HostRuntime, file: File, name: &str, out: &mut [u8]) {
 fn answer_argument(rt: HostRuntime, i: usize, out: &mut [u8]) {
     let mut buffer = [0u8; PATH_ROOM];
     say(rt, b"== ");
-    let Ok(name) = named_path(rt, i, &mut buffer) else {
+    let answer = rt.arg(i, &mut buffer);
+    let Ok(name) = path_of(answer, &buffer) else {
         say(rt, b" missing\n");
         return;
     };

@@ -6,7 +6,7 @@ use book::answers::refusal_number;
 use book::ledger::Book;
 use figuring::tables::Table;
 use std::fs::File;
-use streams::read_full;
+use streams::reading::read_full;
 use text::answering::ANSWER_ROOM;
 use text::desk::{Desk, last, open_desk, take_in};
 use text::listing::{LISTING_ROOM, put_listing};

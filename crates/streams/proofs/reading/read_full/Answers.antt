@@ -4,7 +4,7 @@ use Rattle.std.specs.Io.KnownBytes.{Consumes}
 use Rattle.std.proofs.KnownBytes.{Consumes-trans, Consumes-kept}
 use borrow.Rule.Slice.PartMut.{put_mid, post_of}
 use lib.Seq.{take-add, take-append-le}
-use Rattle.streams.proofs.read_full.Goals as goal
+use Rattle.streams.proofs.reading.read_full.Goals as goal
 
 -- what a read put behind the first `at` bytes, and those
 joined :

@@ -1,7 +1,7 @@
 -- Each read but the last leaves less of the buffer to fill, and what stands in it is what was consumed.
 use Rattle.std.proofs.Common.{◌-◌, ◌≤◌, ◌≡◌, length, take}
 use Rattle.std.specs.Io.KnownBytes.{Consumes}
-use Rattle.streams.proofs.read_full.Given as goal
+use Rattle.streams.proofs.reading.read_full.Given as goal
 
 abbrev pub invariant-loop-done : goal.invariant-loop-done
 invariant-loop-done g l = record {

@@ -15,7 +15,7 @@ use Rattle.book.specs.Filings.{with_amends}
 use Rattle.book.specs.Sizes.{families}
 use Rattle.book.specs.Ledger.{cell, with_mark}
 use Rattle.book.specs.Soundness.{sound}
-use Rattle.book.specs.Refusals.{Row, or_else, first_refusal, number_of, refusal_in}
+use Rattle.book.specs.Refusals.{Verdict, Row, or_else, first_refusal, number_of, refusal_in}
 use Rattle.book.specs.Postings.{ordinary_for, part_for, part_beside, filing_cell, stored}
 use Rattle.book.specs.Rules.{posted, done, outcome, rows_for, head_rows, own_rows, fit_row, figure_rows, file_rows, filed_row}
 use Rattle.book.specs.Demand3.{is_accepted}
@@ -26,8 +26,7 @@ use Rattle.book.specs.declared.ledger.Book.{Book}
 use Rattle.book.specs.declared.kinds.Call.{Call}
 use Rattle.book.specs.declared.kinds.Filing.{Filing}
 use Rattle.book.specs.declared.answers.Posted.{Posted}
-use Rattle.book.specs.declared.answers.Verdict.{Verdict}
-use Rattle.book.specs.declared.answers.Verdict.TheVariants.{Accepted, Refuse}
+use Rattle.std.specs.Prelude.{Ok, Err}
 use Rattle.book.proofs.TableLaws.{alike, same_after, by_verdict}
 use Rattle.book.proofs.CallLaws.{none_gives}
 use Rattle.book.proofs.RefusalLaws.{number_above_0}
@@ -50,8 +49,8 @@ amends t b f =
 -- ---- which are accepted
 -- the number of a verdict, 0 where it accepts
 abbrev numbered : Verdict → ℕ
-numbered Accepted = 0
-numbered (Refuse r) = number_of r
+numbered (Ok u) = 0
+numbered (Err r) = number_of r
 
 -- 18 or none in the place of none or 9, after rows that give neither; none gives 0
 in_place :
@@ -86,8 +85,8 @@ unfolding posted done stored refusal_in
 number_of_lem t b f = go (first_refusal (rows_for t b (Call.File f)))
   where
     go : (v : Verdict) → refusal_in (outcome v b (done t b (Call.File f))).answer ≡ numbered v
-    go Accepted = refl
-    go (Refuse r) = refl
+    go (Ok u) = refl
+    go (Err r) = refl
 
 pub stands_in_place : (t : Table) (b : Book) (f : Filing) → StandsInPlaceOf9 t b f
 unfolding rows_for head_rows own_rows file_rows
@@ -110,7 +109,7 @@ stored_again b c f y z h =
     rw (m, k, s, p)
 
 -- a family that is filed as the call would have it
-as_asked : (amends is_filed : Bool) → is_filed ≡ amends → first_refusal (filed_row amends is_filed ∷ []) ≡ Accepted
+as_asked : (amends is_filed : Bool) → is_filed ≡ amends → first_refusal (filed_row amends is_filed ∷ []) ≡ Ok tt
 as_asked true is_filed e = rw e
 as_asked false is_filed e = rw e
 

@@ -1,9 +1,9 @@
 -- Laws of an amount under a condition, and of the test of any and the sums over the numbers below a bound: what a counted loop needs
 -- at each turn and at its end, and what the theorems need of a sum of which one term changed.
 use Prim.Native.Nat.{ℕ, zero, suc, ◌+◌, ◌*◌, ◌<◌, ◌≤◌, min}
-use mathlib.Core.Bool.{Bool, true, false, ◌||◌, or-true}
-use mathlib.Core.Logic.{◌≢◌, ⊎_elim}
-use mathlib.Core.Path.{◌≡◌, refl, ◌∙◌, ap, ap₂}
+use mathlib.Core.Bool.{Bool, true, false, ◌||◌}
+use mathlib.Core.Logic.{◌≢◌}
+use mathlib.Core.Path.{◌≡◌, refl, ap, ap₂}
 use native.Mathlib.Omega.{arith}
 use native.Mathlib.Numerals.{add-one}
 use native.Mathlib.Nat.{le_refl, suc-mul}
@@ -12,9 +12,8 @@ use borrow.Author.Tests.{eq-eqb, ne_eqb}
 use lib.Dec.{eqb}
 use lib.IntN.{ℤ, pos, nat_abs, ◌+ℤ◌}
 use Rattle.figuring.proofs.SignedLaws.{abs_add}
-use Rattle.figuring.proofs.BelowLaws.{below_suc}
 use Rattle.book.specs.Accounts.{only}
-use Rattle.book.specs.Below.{any_below, sum_below, sum_below_ℤ, count_below, one_if}
+use Rattle.book.specs.Below.{sum_below, sum_below_ℤ, count_below, one_if}
 
 -- ---- an amount under a condition
 pub only_most : (t : Bool) (n : ℕ) → only t n ≤ n
@@ -62,22 +61,6 @@ unfolding only
 only_either true q n = omega arith
 only_either false true n = omega arith
 only_either false false n = omega arith
-
--- ---- one more
-pub any_more : (p : ℕ → Bool) (n : ℕ) → any_below n p ≡ false → p n ≡ false → any_below (n + 1) p ≡ false
-unfolding any_below
-any_more p n h k = rw (add-one, h, k)
-
--- ---- one that decides
-pub any_hits : (p : ℕ → Bool) (n i : ℕ) → i < n → p i ≡ true → any_below n p ≡ true
-unfolding any_below
-any_hits p zero i l h = absurd (omega arith)
-any_hits p (suc n) i l h =
-    ⊎_elim (λ e. rw (← e, h) (or-true (any_below i p))) (λ m. rw (any_hits p n i m h)) (below_suc l)
-
--- ---- where a loop that counts i up to n ends
-pub any_done : (p : ℕ → Bool) (n i : ℕ) {b : Bool} → i ≤ n → n ≤ i → any_below i p ≡ b → any_below n p ≡ b
-any_done p n i l g h = ap (λ (k : ℕ). any_below k p) (omega arith) ∙ h
 
 -- ---- sums
 pub sum_more : (f : ℕ → ℕ) (n : ℕ) → sum_below (n + 1) f ≡ sum_below n f + f n

@@ -11,7 +11,7 @@ use Rattle.book.specs.Rules.{head_rows, table_rows, own_rows, rows_for, filed_ro
 use Rattle.book.specs.declared.ledger.Book.{Book}
 use Rattle.book.specs.declared.kinds.Call.{Call}
 use Rattle.book.specs.declared.kinds.Filing.{Filing}
-use Rattle.book.specs.declared.answers.Verdict.TheVariants.{Accepted}
+use Rattle.std.specs.Prelude.{Ok}
 use Rattle.book.proofs.FileFacts.{fileable}
 use Rattle.book.proofs.CloseFacts.{closable}
 use Rattle.book.proofs.MoveFacts.{tradable, applicable, retirable}
@@ -20,7 +20,7 @@ use Rattle.book.proofs.FilingLaws.{file_lawful}
 use Rattle.book.proofs.ClosingLaws.{close_lawful}
 use Rattle.book.proofs.MovingLaws.{trade_lawful, apply_lawful, retire_lawful}
 
-pub lawful : (t : Table) (b : Book) (c : Call) → sound b ≡ true → first_refusal (own_rows t b c) ≡ Accepted → Lawful t b c
+pub lawful : (t : Table) (b : Book) (c : Call) → sound b ≡ true → first_refusal (own_rows t b c) ≡ Ok tt → Lawful t b c
 unfolding own_rows
 lawful t b (Call.File f) s e = file_lawful t b f (fileable t b f s e)
 lawful t b (Call.Close y) s e = close_lawful t b y (closable b y s e)

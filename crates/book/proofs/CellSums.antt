@@ -11,6 +11,7 @@ use Rattle.figuring.specs.Years.{first_year}
 use Rattle.figuring.specs.Life.{open_short}
 use Rattle.figuring.specs.Tables.{Table}
 use Rattle.figuring.proofs.LifeLaws.{Live, OpenShort}
+use Rattle.book.specs.Refusals.{Answered}
 use Rattle.book.specs.Sizes.{makers, sets, years, places, shortage_most}
 use Rattle.book.specs.Accounts.{only}
 use Rattle.book.specs.Ledger.{key, In, figure_at, lower}
@@ -24,7 +25,6 @@ use Rattle.book.specs.OldestFirst.{sum_over, open_shortages, as_calls, covered_b
 use Rattle.book.specs.declared.ledger.Book.{Book}
 use Rattle.book.specs.declared.kinds.Call.{Call}
 use Rattle.book.specs.declared.kinds.Cover.{Cover}
-use Rattle.book.specs.declared.answers.Answer.{Answer}
 use Rattle.book.proofs.BelowLaws.{only_most, only_same, only_other, only_less}
 use Rattle.book.proofs.TotalLaws.{sum_falls, sum_small, sum_change}
 use Rattle.book.proofs.TableLaws.{by_verdict}
@@ -96,7 +96,7 @@ module _ (t : Table) (b : Book) (c : Cover) (x : Payment) where
   call = Call.Apply (application c x)
 
   -- its Mg, under a condition, if the answer accepts it
-  abbrev taken : Answer → Bool → ℕ
+  abbrev taken : Answered → Bool → ℕ
   taken a h = only (is_accepted a) (only h x.mg)
 
   lots_step :

@@ -19,13 +19,12 @@ use Rattle.book.specs.Refusals.{first_refusal}
 use Rattle.book.specs.Postings.{application_done}
 use Rattle.book.specs.Coverage.{Standing, Turn, turn, amount, after, paying, payments}
 use Rattle.book.specs.Covering.{application, in_lists, in_book, lots_paid, shortages_paid}
-use Rattle.book.specs.Paying.{paid_in}
 use Rattle.book.specs.Rules.{apply_rows, done}
 use Rattle.book.specs.Companions.{Sized}
 use Rattle.book.specs.declared.ledger.Book.{Book}
 use Rattle.book.specs.declared.kinds.Application.{Application}
 use Rattle.book.specs.declared.kinds.Cover.{Cover}
-use Rattle.book.specs.declared.answers.Verdict.TheVariants.{Accepted}
+use Rattle.std.specs.Prelude.{Ok}
 use Rattle.book.proofs.BelowLaws.{only_most, only_some}
 use Rattle.book.proofs.LedgerLaws.{at_lower, length_lower}
 use Rattle.book.proofs.SoundnessLaws.{is_sound}
@@ -99,8 +98,8 @@ module _ (Y : ℕ) (c : Cover) (l s : List ℕ) (hm : c.maker < makers) (hs : c.
 module _ (Y : ℕ) (c : Cover) (hm : c.maker < makers) (hs : c.set < sets) (upto : Y ≤ all_closed) where
   pub turns_stand :
       (ts : List Turn) (l s : List ℕ) → length l ≡ places → length s ≡ places
-      → in_lists Y (lots_paid (map (application c) (paid_in Y l s c ts)) l)
-      (shortages_paid (map (application c) (paid_in Y l s c ts)) s) c
+      → in_lists Y (lots_paid (map (application c) (payments (in_lists Y l s c) ts)) l)
+      (shortages_paid (map (application c) (payments (in_lists Y l s c) ts)) s) c
       ≡ left_after (in_lists Y l s c) ts
   unfolding payments left_after lots_paid shortages_paid
   turns_stand [] l s zl zs = refl
@@ -149,7 +148,7 @@ abbrev pub AllTaken : Book → List Application → Type 0
 AllTaken b [] = Unit {0}
 AllTaken b (p ∷ ps) =
     (sound b ≡ true)
-    × (first_refusal (apply_rows b.open_year b.lots b.shortages p) ≡ Accepted)
+    × (first_refusal (apply_rows b.open_year b.lots b.shortages p) ≡ Ok tt)
     × AllTaken (application_done b p).book ps
 
 module _ (c : Cover) (hm : c.maker < makers) (hs : c.set < sets) where
@@ -159,7 +158,7 @@ module _ (c : Cover) (hm : c.maker < makers) (hs : c.set < sets) where
   -- a turn's amount above 0 is accepted as an application
   accepts :
       (b : Book) (t : Turn) (n : ℕ) → amount (in_book b c) t ≡ suc n
-      → first_refusal (apply_rows b.open_year b.lots b.shortages (paid t (suc n))) ≡ Accepted
+      → first_refusal (apply_rows b.open_year b.lots b.shortages (paid t (suc n))) ≡ Ok tt
   unfolding apply_rows
   accepts b t n e =
       let lot = figure_at b.lots (key c.maker c.set t.vintage) in

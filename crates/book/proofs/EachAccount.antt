@@ -1,6 +1,6 @@
 -- Each account by itself, by computing.
 use mathlib.Core.Path.{refl}
-use Rattle.figuring.specs.Standards.{standard_for, grams_of, tractor, vocational, printed_for}
+use Rattle.figuring.specs.Standards.{standard_for, tractor, vocational, printed_for}
 use Rattle.figuring.specs.Grid.{column_of, grid_row, grid_from, printed_grid}
 use Rattle.figuring.specs.Tables.{is_standard, standard_of, ordinary_in}
 use Rattle.figuring.specs.Editions.{alternative_years, in_table, alternative_for, standard_under}
@@ -13,7 +13,7 @@ use Rattle.book.specs.Accounts.{same_key, only, feed, feed_all, accounts_from}
 use Rattle.book.specs.EachAccount.{EachAccount}
 
 pub each_account : EachAccount
-unfolding accounts_from feed_all feed figure_at raise same_key only sum_below_ℤ part_beside ordinary_in column_of standard_of is_standard between printed_grid grid_from grid_row standard_under alternative_for alternative_years in_table standard_for grams_of tractor vocational printed_for part_of net_of nearest earned_of shortfall_of
+unfolding accounts_from feed_all feed figure_at raise same_key only sum_below_ℤ part_beside ordinary_in column_of standard_of is_standard between printed_grid grid_from grid_row standard_under alternative_for alternative_years in_table standard_for tractor vocational printed_for part_of net_of nearest earned_of shortfall_of
 each_account =
     record {
       seller = refl;

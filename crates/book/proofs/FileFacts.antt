@@ -2,7 +2,6 @@
 use mathlib.Core.Bool.{Bool, true, false, false≢true}
 use mathlib.Core.Path.{◌≡◌, ap}
 use Prim.Native.Nat.{ℕ, ◌≤◌, ◌<◌}
-use native.Mathlib.Omega.{arith}
 use borrow.Author.Tests.{leb-false, eqb-true, not-false}
 use lib.Dec.{eqb}
 use lib.ListN.{get_or}
@@ -12,8 +11,6 @@ use Rattle.figuring.specs.Tables.{Table}
 use Rattle.figuring.specs.Editions.{no_edition}
 use Rattle.figuring.specs.Parts.{within_limits, part_of, family_part}
 use Rattle.figuring.specs.declared.units.Part.{Part}
-use Rattle.figuring.specs.declared.parts.FamilyPart.{FamilyPart}
-use Rattle.figuring.specs.declared.parts.FamilyPart.TheVariants.{Figured, OutOfLimits}
 use Rattle.figuring.proofs.PartLaws.{figured}
 use Rattle.book.specs.Sizes.{makers, sets, families}
 use Rattle.book.specs.Ledger.{marked}
@@ -25,7 +22,7 @@ use Rattle.book.specs.Demand3.{is_accepted}
 use Rattle.book.specs.declared.ledger.Book.{Book}
 use Rattle.book.specs.declared.kinds.Call.{Call}
 use Rattle.book.specs.declared.kinds.Filing.{Filing}
-use Rattle.book.specs.declared.answers.Verdict.TheVariants.{Accepted}
+use Rattle.std.specs.Prelude.{Option, Some, Ok}
 use Rattle.book.proofs.TableLaws.{cleared, by_verdict}
 use Rattle.book.proofs.CloseFacts.{still_open}
 
@@ -48,7 +45,7 @@ as_amends false is_filed e = e
 
 pub fileable :
     (t : Table) (b : Book) (f : Filing) → sound b ≡ true
-    → first_refusal (file_rows (ordinary_for t f) b.open_year b.marks f) ≡ Accepted
+    → first_refusal (file_rows (ordinary_for t f) b.open_year b.marks f) ≡ Ok tt
     → Fileable t b f
 unfolding file_rows
 fileable t b f s e =
@@ -76,14 +73,9 @@ accepted_filing t b f =
 -- what family_part gives a filing that is within its limits
 module _ (s fcl cf volume life : ℕ) (h : within_limits fcl cf volume life ≡ true) where
   pub part_is :
-      {r : FamilyPart} {p : Part}
-      → r ≡ family_part s fcl cf volume life → r ≡ Figured p → p.0 ≡ part_of s fcl cf volume life
+      {r : Option Part} {p : Part}
+      → r ≡ family_part s fcl cf volume life → r ≡ Some p → p.0 ≡ part_of s fcl cf volume life
   part_is {r} {p} e d =
       let g = figured s fcl cf volume life h in
       let q : p ≡ record { 0 = part_of s fcl cf volume life } = cc in
       ap (λ (x : Part). x.0) q
-
-  pub never_out : {r : FamilyPart} → r ≡ family_part s fcl cf volume life → r ≡ OutOfLimits → ⊥
-  never_out e d =
-      let g = figured s fcl cf volume life h in
-      let z : ◌≡◌ {A = ℕ} 0 1 = cc in omega arith

@@ -9,13 +9,13 @@ use borrow.Author.Tests.{leb-false}
 use lib.Dec.{leb}
 use lib.ListN.{get_or}
 use lib.IntN.{ℤ}
+use Rattle.figuring.specs.Standards.{Standard}
 use Rattle.figuring.specs.Tables.{Table}
-use Rattle.figuring.specs.declared.standards.Standard.{Standard}
 use Rattle.figuring.specs.declared.units.Part.{Part}
 use Rattle.book.specs.Sizes.{makers, sets, cells, families}
 use Rattle.book.specs.Ledger.{cell, marked}
 use Rattle.book.specs.Soundness.{sound}
-use Rattle.book.specs.Refusals.{first_refusal}
+use Rattle.book.specs.Refusals.{Answered, Verdict, first_refusal}
 use Rattle.book.specs.Postings.{filing_cell, ordinary_for, part_for, with_families, stored}
 use Rattle.book.specs.Rules.{head_rows, table_rows, file_rows, own_rows, rows_for, done, outcome, posted}
 use Rattle.book.specs.Demand3.{is_accepted, book_after}
@@ -27,7 +27,7 @@ use Rattle.book.specs.declared.ledger.Book.{Book}
 use Rattle.book.specs.declared.kinds.Call.{Call}
 use Rattle.book.specs.declared.kinds.Filing.{Filing}
 use Rattle.book.specs.declared.answers.Answer.{Answer}
-use Rattle.book.specs.declared.answers.Verdict.{Verdict}
+use Rattle.std.specs.Prelude.{Ok}
 use Rattle.book.proofs.TableLaws.{alike, same_after, by_verdict}
 use Rattle.book.proofs.FileFacts.{Fileable, fileable}
 use Rattle.book.proofs.FilingLaws.{Here, part_here, part_there, mark_here, mark_there, still_sound}
@@ -152,7 +152,8 @@ module _ (b : Book) (f g : Lodged) (z : Sized b) (apart : named_by f ≡ named_b
 
   -- what does not read the count
   answer_same :
-      {X : Type 0} (read : Answer → X) → ((p : Part) (m n : ℕ) → read (Answer.Filed p m) ≡ read (Answer.Filed p n))
+      {X : Type 0} (read : Answered → X)
+      → ((p : Part) (m n : ℕ) → read (Ok (Answer.Filed p m)) ≡ read (Ok (Answer.Filed p n)))
       → read (posted t (next b f) call).answer ≡ read (posted t b call).answer
   unfolding posted done stored
   answer_same read same =

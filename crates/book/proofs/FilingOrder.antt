@@ -2,13 +2,13 @@
 use mathlib.Core.List.{List, ◌∷◌}
 use mathlib.Core.Path.{◌≡◌, refl, sym, ◌∙◌, ap, ap₂, subst}
 use lib.IntN.{ℤ, nat_abs}
-use Rattle.book.specs.Refusals.{result_in, values_in}
+use Rattle.book.specs.Refusals.{Answered, result_in, values_in}
 use Rattle.book.specs.Orders.{Among, without, Reordered}
 use Rattle.book.specs.FilingOrder.{Lodged, named_by, NoTwoAlike, filings, after_filings, count_aside}
 use Rattle.book.specs.FilingOrder.{FilingOrder, SaysNoLess, MadeBy, EachAlone}
 use Rattle.book.specs.declared.ledger.Book.{Book}
-use Rattle.book.specs.declared.answers.Answer.{Answer}
-use Rattle.book.specs.declared.answers.Answer.TheVariants.{Refused, Filed, Closed, Left}
+use Rattle.book.specs.declared.answers.Answer.TheVariants.{Filed, Closed, Left}
+use Rattle.std.specs.Prelude.{Ok, Err}
 use Rattle.book.proofs.KeptSound.{sized_after}
 use Rattle.book.proofs.AmongLaws.{none_among, Stands, is_first, in_rest, stands}
 use Rattle.book.proofs.AmongLaws.{in_left, both_without, back, every_order}
@@ -63,18 +63,18 @@ one_more f fs new n g h p q e = go (stands p)
     go (in_rest r w) = let s = subst (Among h) w q in rest r s (stands s)
 
 -- an answer of a filing with another count
-abbrev counted : Answer → ℤ → Answer
-counted (Refused r) z = Refused r
-counted (Filed p n) z = Filed p (nat_abs z)
-counted (Closed n) z = Closed n
-counted (Left m) z = Left m
+abbrev counted : Answered → ℤ → Answered
+counted (Err r) z = Err r
+counted (Ok (Filed p n)) z = Ok (Filed p (nat_abs z))
+counted (Ok (Closed n)) z = Ok (Closed n)
+counted (Ok (Left m)) z = Ok (Left m)
 
-rebuilt : (a : Answer) → counted (count_aside a) (result_in a 1) ≡ a
+rebuilt : (a : Answered) → counted (count_aside a) (result_in a 1) ≡ a
 unfolding values_in
-rebuilt (Refused r) = refl
-rebuilt (Filed p n) = refl
-rebuilt (Closed n) = refl
-rebuilt (Left m) = refl
+rebuilt (Err r) = refl
+rebuilt (Ok (Filed p n)) = refl
+rebuilt (Ok (Closed n)) = refl
+rebuilt (Ok (Left m)) = refl
 
 pub says_no_less : SaysNoLess
 says_no_less =

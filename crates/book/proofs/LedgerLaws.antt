@@ -19,10 +19,6 @@ use Rattle.book.specs.Ledger.{Key, key, In, place, figure_at, lower, raise, cell
 use Rattle.book.specs.Postings.{netted}
 use Rattle.book.specs.Accounts.{same_key, only}
 
--- ── keys
-pub apart : (a b n m : ℕ) → a < years → b < years → n * years + a ≡ m * years + b → (n ≡ m) × (a ≡ b)
-apart a b n m ha hb e = (omega arith, omega arith)
-
 -- two keys in range are the same key or have other indices
 same_false : (k j : Key) → In k → In j → same_key k j ≡ false → place j ≢ place k
 unfolding same_key

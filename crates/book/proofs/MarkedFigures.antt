@@ -3,7 +3,7 @@ use mathlib.Core.Bool.{true}
 use mathlib.Core.Path.{◌≡◌, refl, ◌∙◌, ap}
 use native.Mathlib.Omega.{arith}
 use lib.IntN.{pos}
-use Rattle.figuring.specs.Standards.{standard_for, tractor, printed_for, is_absent}
+use Rattle.figuring.specs.Standards.{standard_for, tractor, printed_for}
 use Rattle.figuring.specs.Tables.{built_in}
 use Rattle.figuring.proofs.TableLaws.{built_in_accepted, as_printed}
 use Rattle.figuring.specs.Editions.{no_edition}
@@ -87,7 +87,7 @@ close_refused =
 
 -- ---- all of them
 pub marked_figures : MarkedFigures
-unfolding posted rows_for head_rows own_rows file_rows done stored fresh_book is_accepted refusal_in marked standard_for tractor printed_for is_absent no_edition within_limits between
+unfolding posted rows_for head_rows own_rows file_rows done stored fresh_book is_accepted refusal_in marked standard_for tractor printed_for no_edition within_limits between
 marked_figures =
     record {
       figuring = Figuring.marked_figures;

@@ -9,7 +9,7 @@ use Rattle.figuring.specs.Editions.{standard_under, no_edition}
 use Rattle.figuring.proofs.EditionLaws.{named, card_editions}
 use Rattle.figuring.specs.Tables.{Table}
 use Rattle.book.specs.Sizes.{makers, sets, all_closed}
-use Rattle.book.specs.Refusals.{first_refusal, refusal_in, values_in, result_in}
+use Rattle.book.specs.Refusals.{Answered, Verdict, first_refusal, refusal_in, values_in, result_in}
 use Rattle.book.specs.Postings.{ordinary_for, part_for, part_beside, stored}
 use Rattle.book.specs.Rules.{posted, rows_for, head_rows, own_rows, file_rows, done, outcome}
 use Rattle.book.specs.Demand3.{is_accepted}
@@ -18,8 +18,6 @@ use Rattle.book.specs.Filings.{with_edition}
 use Rattle.book.specs.declared.ledger.Book.{Book}
 use Rattle.book.specs.declared.kinds.Call.{Call}
 use Rattle.book.specs.declared.kinds.Filing.{Filing}
-use Rattle.book.specs.declared.answers.Answer.{Answer}
-use Rattle.book.specs.declared.answers.Verdict.{Verdict}
 use Rattle.book.proofs.TableLaws.{alike, by_verdict}
 use Rattle.book.proofs.FileFacts.{accepted_filing}
 
@@ -63,7 +61,7 @@ module _ (t : Table) (b : Book) (f : Filing) (n : no_edition f.edition f.set f.y
 
   -- what reads of an accepted answer no part
   same_answer :
-      {X : Type 0} (read : Answer → X) → read (done t b (Call.File f)).answer ≡ read (done t b ordinary).answer
+      {X : Type 0} (read : Answered → X) → read (done t b (Call.File f)).answer ≡ read (done t b ordinary).answer
       → read (posted t b (Call.File f)).answer ≡ read (posted t b ordinary).answer
   unfolding posted
   same_answer read e =

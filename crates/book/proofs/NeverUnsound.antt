@@ -17,7 +17,7 @@ use Rattle.book.specs.Companions.{Sized, NeverUnsound}
 use Rattle.book.specs.declared.ledger.Book.{Book}
 use Rattle.book.specs.declared.kinds.Call.{Call}
 use Rattle.book.specs.declared.answers.Refusal.{Refusal}
-use Rattle.book.specs.declared.answers.Verdict.TheVariants.{Refuse}
+use Rattle.std.specs.Prelude.{Err}
 use Rattle.book.proofs.TableLaws.{by_rows, sound_head}
 use Rattle.book.proofs.RefusalLaws.{accepted_number}
 use Rattle.book.proofs.CallLaws.{lawful, none_gives, beside_not_two, own_not_two}
@@ -26,15 +26,15 @@ use Rattle.book.proofs.KeptSound.{sound_after}
 -- ---- refusal 2
 -- rows of which none gives n refuse by no n
 pub refuses_not :
-    (n : ℕ) (xs : List Row) (r : Refusal) → none_gives n xs ≡ true → first_refusal xs ≡ Refuse r → number_of r ≡ n → ⊥
-refuses_not n [] r e h k = let z : ◌≡◌ {A = ℕ} 0 1 = cc in omega arith
+    (n : ℕ) (xs : List Row) (r : Refusal) → none_gives n xs ≡ true → first_refusal xs ≡ Err r → number_of r ≡ n → ⊥
+refuses_not n [] r e h k = cc
 refuses_not n (x ∷ xs) r e h k =
     let w = both (not (eqb (number_of x.why) n)) (none_gives n xs) e in
     go x.test h (eqb-false _ _ (not-true _ w.0)) (λ d. refuses_not n xs r w.1 d k)
   where
     go :
-        (t : Bool) → or_else t x.why (first_refusal xs) ≡ Refuse r → (number_of x.why ≡ n → ⊥)
-        → (first_refusal xs ≡ Refuse r → ⊥) → ⊥
+        (t : Bool) → or_else t x.why (first_refusal xs) ≡ Err r → (number_of x.why ≡ n → ⊥)
+        → (first_refusal xs ≡ Err r → ⊥) → ⊥
     go true d p q = let y : x.why ≡ r = cc in p (rw y k)
     go false d p q = q d
 

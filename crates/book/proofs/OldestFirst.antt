@@ -33,7 +33,7 @@ use Rattle.book.specs.declared.kinds.Call.{Call}
 use Rattle.book.specs.declared.kinds.Application.{Application}
 use Rattle.book.specs.declared.kinds.Cover.{Cover}
 use Rattle.book.specs.declared.answers.Posted.{Posted}
-use Rattle.book.specs.declared.answers.Verdict.TheVariants.{Accepted}
+use Rattle.std.specs.Prelude.{Ok}
 use Rattle.book.proofs.BelowLaws.{only_never, only_falls, only_first, only_either, either_zero}
 use Rattle.book.proofs.TableLaws.{sound_head, own_decide}
 use Rattle.book.proofs.SoundnessLaws.{Sound, sound_is}
@@ -47,7 +47,7 @@ use Rattle.book.proofs.CellSums.{sum_most, shortages_small, lots_fall, lots_cons
 module _ (t : Table) where
   taken_posted :
       (b : Book) (p : Application) → sound b ≡ true
-      → first_refusal (apply_rows b.open_year b.lots b.shortages p) ≡ Accepted
+      → first_refusal (apply_rows b.open_year b.lots b.shortages p) ≡ Ok tt
       → posted t b (Call.Apply p) ≡ application_done b p
   unfolding own_rows done
   taken_posted b p s e = own_decide t b (Call.Apply p) (sound_head b [] s) e

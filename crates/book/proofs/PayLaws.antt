@@ -9,10 +9,11 @@ use Rattle.figuring.specs.Years.{first_year}
 use Rattle.figuring.specs.Life.{open_short}
 use Rattle.book.specs.Sizes.{years, places}
 use Rattle.book.specs.Accounts.{only}
-use Rattle.book.specs.Ledger.{key, In, lower}
+use Rattle.book.specs.Ledger.{key, lower}
 use Rattle.book.specs.Coverage.{Standing, Turn, turn, Payment, amount, after, paying, payments, rising, turns, model_years, coverage, total}
-use Rattle.book.specs.Covering.{application, in_lists, lots_paid, shortages_paid, moved_by, Coverable}
-use Rattle.book.specs.Paying.{turns_of, all_turns, Payable, Paid}
+use Rattle.book.specs.Covering.{application, in_lists, in_book, lots_paid, shortages_paid, all_applied, moved_by, Coverable}
+use Rattle.book.specs.Postings.{moved}
+use Rattle.book.specs.Paying.{turns_of, all_turns, paid_in, Payable, Paid}
 use Rattle.book.specs.Companions.{Sized}
 use Rattle.book.specs.declared.ledger.Book.{Book}
 use Rattle.book.specs.declared.kinds.Application.{Application}
@@ -56,78 +57,72 @@ module _ (c : Cover) where
   shortages_append [] qs l = refl
   shortages_append (p ∷ ps) qs l = shortages_append ps qs _
 
-paid_none : {Y : ℕ} {c : Cover} {l s : List ℕ} → Paid Y l s c [] l s 0
+-- applications after applications
+applied_append :
+    (b : Book) (c : Cover) (ps qs : List Payment)
+    → all_applied b (map (application c) (ps ++ qs))
+    ≡ all_applied (all_applied b (map (application c) ps)) (map (application c) qs)
+applied_append b c ps qs = ap₂ (moved b) (lots_append c ps qs b.lots) (shortages_append c ps qs b.shortages)
+
+paid_none : {b : Book} {c : Cover} → Paid b c [] b 0
 unfolding payments lots_paid shortages_paid total
-paid_none = record { lots = refl; shortages = refl; sum = refl }
+paid_none = record { book = refl; sum = refl }
 
--- some turns that were paid, of lists of a book; and others after them
-module _
-    {Y : ℕ} {c : Cover} {l s : List ℕ} {all ts : List Turn} {l' s' : List ℕ} {n : ℕ} (ok : Payable Y l s c all)
-    (p : Paid Y l s c ts l' s' n)
-  where
-    -- the lists are as long as they were
-    lots_stay : length l' ≡ places
-    lots_stay = ap length p.lots ∙ lots_length _ l ∙ ok.lots
+-- some turns that were paid from a book, and others after them
+module _ {b : Book} {c : Cover} {all ts : List Turn} {d : Book} {n : ℕ} (ok : Payable b c all) (p : Paid b c ts d n) where
+  -- the lists are as long as they were
+  lots_stay : length d.lots ≡ places
+  lots_stay = ap (λ (x : Book). length x.lots) p.book ∙ lots_length _ b.lots ∙ ok.lots
 
-    shortages_stay : length s' ≡ places
-    shortages_stay = ap length p.shortages ∙ shortages_length _ s ∙ ok.shortages
+  shortages_stay : length d.shortages ≡ places
+  shortages_stay = ap (λ (x : Book). length x.shortages) p.book ∙ shortages_length _ b.shortages ∙ ok.shortages
 
-    -- what is paid after them is paid from what now stands in the lists
-    after_them :
-        (us : List Turn)
-        → payments (in_lists Y l s c) (ts ++ us) ≡ payments (in_lists Y l s c) ts ++ payments (in_lists Y l' s' c) us
-    after_them us =
-        let stands : in_lists Y l' s' c ≡ left_after (in_lists Y l s c) ts =
-        ap₂ (λ (x y : List ℕ). in_lists Y x y c) p.lots p.shortages
-        ∙ turns_stand Y c ok.maker ok.set ok.upto ts l s ok.lots ok.shortages in
-        payments_append ts us (in_lists Y l s c)
-        ∙ ap (λ (g : Standing). payments (in_lists Y l s c) ts ++ payments g us) (sym stands)
+  -- what is paid after them is paid from what now stands in the book
+  after_them : (us : List Turn) → paid_in b c (ts ++ us) ≡ paid_in b c ts ++ paid_in d c us
+  after_them us =
+      let stands : in_book d c ≡ left_after (in_book b c) ts =
+      ap (λ (x : Book). in_book x c) p.book
+      ∙ turns_stand b.open_year c ok.maker ok.set ok.upto ts b.lots b.shortages ok.lots ok.shortages in
+      payments_append ts us (in_book b c)
+      ∙ ap (λ (g : Standing). payments (in_book b c) ts ++ payments g us) (sym stands)
 
-    paid_more :
-        {us : List Turn} {l'' s'' : List ℕ} {m : ℕ} → Paid Y l' s' c us l'' s'' m
-        → Paid Y l s c (ts ++ us) l'' s'' (n + m)
-    paid_more {us} q =
-        let ps = payments (in_lists Y l s c) ts in
-        let qs = payments (in_lists Y l' s' c) us in
-        let e = sym (after_them us) in
-        record {
-          lots =
-              q.lots ∙ ap (lots_paid (map (application c) qs)) p.lots ∙ sym (lots_append c ps qs l)
-              ∙ ap (λ (rs : List Payment). lots_paid (map (application c) rs) l) e;
-          shortages =
-              q.shortages ∙ ap (shortages_paid (map (application c) qs)) p.shortages
-              ∙ sym (shortages_append c ps qs s) ∙ ap (λ (rs : List Payment). shortages_paid (map (application c) rs) s) e;
-          sum = ap₂ ◌+◌ p.sum q.sum ∙ sym (total_append ps qs) ∙ ap total e;
-        }
+  paid_more : {us : List Turn} {e : Book} {m : ℕ} → Paid d c us e m → Paid b c (ts ++ us) e (n + m)
+  paid_more {us} q =
+      let ps = paid_in b c ts in
+      let qs = paid_in d c us in
+      record {
+        book =
+            q.book ∙ ap (λ (x : Book). all_applied x (map (application c) qs)) p.book ∙ sym (applied_append b c ps qs)
+            ∙ ap (λ (rs : List Payment). all_applied b (map (application c) rs)) (sym (after_them us));
+        sum = ap₂ ◌+◌ p.sum q.sum ∙ sym (total_append ps qs) ∙ ap total (sym (after_them us));
+      }
 
-    -- all of them come to what these come to and the rest
-    with_rest :
-        (us : List Turn)
-        → total (payments (in_lists Y l s c) (ts ++ us)) ≡ n + total (payments (in_lists Y l' s' c) us)
-    with_rest us =
-        ap total (after_them us) ∙ total_append (payments (in_lists Y l s c) ts) (payments (in_lists Y l' s' c) us)
-        ∙ ap (λ (k : ℕ). k + total (payments (in_lists Y l' s' c) us)) (sym p.sum)
+  -- all of them come to what these come to and the rest
+  with_rest : (us : List Turn) → total (paid_in b c (ts ++ us)) ≡ n + total (paid_in d c us)
+  with_rest us =
+      ap total (after_them us) ∙ total_append (paid_in b c ts) (paid_in d c us)
+      ∙ ap (λ (k : ℕ). k + total (paid_in d c us)) (sym p.sum)
 
-    paid_small : (us : List Turn) → Payable Y l s c (ts ++ us) → n < 2 ^ 64
-    paid_small us h = omega (arith, h.small, with_rest us)
+  paid_small : (us : List Turn) → Payable b c (ts ++ us) → n < 2 ^ 64
+  paid_small us h = omega (arith, h.small, with_rest us)
 
-    payable_next : (us ws : List Turn) → Payable Y l s c (ts ++ (us ++ ws)) → Payable Y l' s' c us
-    payable_next us ws h =
-        record {
-          maker = ok.maker;
-          set = ok.set;
-          upto = ok.upto;
-          lots = lots_stay;
-          shortages = shortages_stay;
-          small =
-              omega (
-                arith,
-                h.small,
-                with_rest (us ++ ws),
-                ap total (payments_append us ws (in_lists Y l' s' c)),
-                total_append (payments (in_lists Y l' s' c) us) (payments (left_after (in_lists Y l' s' c) us) ws),
-              );
-        }
+  payable_next : (us ws : List Turn) → Payable b c (ts ++ (us ++ ws)) → Payable d c us
+  payable_next us ws h =
+      record {
+        maker = ok.maker;
+        set = ok.set;
+        upto = rw p.book ok.upto;
+        lots = lots_stay;
+        shortages = shortages_stay;
+        small =
+            omega (
+              arith,
+              h.small,
+              with_rest (us ++ ws),
+              ap total (payments_append us ws (in_book d c)),
+              total_append (paid_in d c us) (payments (left_after (in_book d c) us) ws),
+            );
+      }
 
 -- ---- one turn
 module _ (c : Cover) (l s : List ℕ) (v y : ℕ) where
@@ -150,18 +145,19 @@ module _ (c : Cover) (l s : List ℕ) (v y : ℕ) where
   total_one (suc q) = omega arith
 
   pub turn_paid :
-      {Y n : ℕ} {l' s' : List ℕ} → n ≡ amount (in_lists Y l s c) (turn y v)
+      (Y : ℕ) {n : ℕ} {l' s' : List ℕ} → n ≡ amount (in_lists Y l s c) (turn y v)
       → l' ≡ lower l (key c.maker c.set v) n → s' ≡ lower s (key c.maker c.set y) n
-      → Paid Y l s c (turn y v ∷ []) l' s' n
+      → (l' ≡ lots_paid (map (application c) (payments (in_lists Y l s c) (turn y v ∷ []))) l)
+      × (s' ≡ shortages_paid (map (application c) (payments (in_lists Y l s c) (turn y v ∷ []))) s)
+      × (n ≡ total (payments (in_lists Y l s c) (turn y v ∷ [])))
   unfolding payments
-  turn_paid {Y} {n} e el es =
+  turn_paid Y {n} e el es =
       let q = amount (in_lists Y l s c) (turn y v) in
-      rw (el, es)
-      (record {
-        lots = ap (lower l (key c.maker c.set v)) e ∙ sym (lot_lowered q);
-        shortages = ap (lower s (key c.maker c.set y)) e ∙ sym (shortage_lowered q);
-        sum = e ∙ sym (total_one q);
-      })
+      rw (el, es) (
+        ap (lower l (key c.maker c.set v)) e ∙ sym (lot_lowered q),
+        ap (lower s (key c.maker c.set y)) e ∙ sym (shortage_lowered q),
+        e ∙ sym (total_one q),
+      )
 
 -- ---- a shortage that is not open asks for nothing
 module _ (y : ℕ) where
@@ -175,13 +171,12 @@ module _ (y : ℕ) where
       ap (λ (q : ℕ). paying (turn y v) q (payments (after h (turn y v)) (map (turn y) vs))) z
       ∙ ap (λ (g : Standing). payments g (map (turn y) vs)) (still h (turn y v) z) ∙ none_asked vs h e
 
-  pub not_open_paid :
-      {Y : ℕ} {c : Cover} {l s : List ℕ} → open_short Y y ≡ false → Paid Y l s c (turns_of y) l s 0
+  pub not_open_paid : {b : Book} {c : Cover} → open_short b.open_year y ≡ false → Paid b c (turns_of y) b 0
   unfolding lots_paid shortages_paid total only
-  not_open_paid {Y} {c} {l} {s} e =
-      let z : (in_lists Y l s c).shorts y ≡ 0 = rw e in
-      let r = none_asked model_years (in_lists Y l s c) z in
-      record { lots = rw r; shortages = rw r; sum = rw r }
+  not_open_paid {b} {c} e =
+      let z : (in_book b c).shorts y ≡ 0 = rw e in
+      let r = none_asked model_years (in_book b c) z in
+      record { book = rw r; sum = rw r }
 
 -- ---- where a loop stands
 rising_on : (a i : ℕ) → rising a (i + 1) ≡ rising a i ++ ((a + i) ∷ [])
@@ -254,74 +249,58 @@ years_split i h =
     ap (λ (ys : List ℕ). turns ys model_years) (rising_split first_year i years h)
     ∙ turns_on model_years (rising first_year i) ((first_year + i) ∷ rising (first_year + i + 1) (years - (i + 1)))
 
--- ---- the two loops: l and s are the lists at the start
-pub record AtVintage (Y : ℕ) (l s : List ℕ) (c : Cover) (y i : ℕ) (l' s' : List ℕ) (n : ℕ) : Type 0 where
+-- ---- the two loops: b is the book at the start
+pub record AtVintage (b : Book) (c : Cover) (y i : ℕ) (d : Book) (n : ℕ) : Type 0 where
   pub passed : i ≤ years
-  pub ok : Payable Y l s c (turns_of y)
-  pub here : In (key c.maker c.set y)
-  pub paid : Paid Y l s c (vintages_passed y i) l' s' n
+  pub ok : Payable b c (turns_of y)
+  pub paid : Paid b c (vintages_passed y i) d n
 
-pub record AtYear (Y : ℕ) (l s : List ℕ) (c : Cover) (i : ℕ) (l' s' : List ℕ) (n : ℕ) : Type 0 where
+pub record AtYear (b : Book) (c : Cover) (i : ℕ) (d : Book) (n : ℕ) : Type 0 where
   pub passed : i ≤ years
-  pub ok : Payable Y l s c all_turns
-  pub paid : Paid Y l s c (years_passed i) l' s' n
+  pub ok : Payable b c all_turns
+  pub paid : Paid b c (years_passed i) d n
 
-module _ {Y : ℕ} {l s : List ℕ} {c : Cover} where
-  pub no_vintage : {y : ℕ} → Payable Y l s c (turns_of y) → In (key c.maker c.set y) → AtVintage Y l s c y 0 l s 0
+module _ {b : Book} {c : Cover} where
+  pub no_vintage : {y : ℕ} → Payable b c (turns_of y) → AtVintage b c y 0 b 0
   unfolding rising
-  no_vintage h i = record { passed = omega arith; ok = h; here = i; paid = paid_none }
+  no_vintage h = record { passed = omega arith; ok = h; paid = paid_none }
 
-  pub no_year : Payable Y l s c all_turns → AtYear Y l s c 0 l s 0
+  pub no_year : Payable b c all_turns → AtYear b c 0 b 0
   unfolding rising turns
   no_year h = record { passed = omega arith; ok = h; paid = paid_none }
 
-  module _ {y i n m : ℕ} {l' s' l'' s'' : List ℕ} (h : AtVintage Y l s c y i l' s' n) (t : i < years) where
-    pub next_vintage :
-        Paid Y l' s' c (turn y (first_year + i) ∷ []) l'' s'' m → AtVintage Y l s c y (i + 1) l'' s'' (n + m)
+  module _ {y i n m : ℕ} {d e : Book} (h : AtVintage b c y i d n) (t : i < years) where
+    pub next_vintage : Paid d c (turn y (first_year + i) ∷ []) e m → AtVintage b c y (i + 1) e (n + m)
     next_vintage p =
-        record {
-          passed = omega arith;
-          ok = h.ok;
-          here = h.here;
-          paid = rw (vintages_on y i) (paid_more h.ok h.paid p);
-        }
+        record { passed = omega arith; ok = h.ok; paid = rw (vintages_on y i) (paid_more h.ok h.paid p) }
 
-    pub vintage_fits : Paid Y l' s' c (turn y (first_year + i) ∷ []) l'' s'' m → n + m < 2 ^ 64
+    pub vintage_fits : Paid d c (turn y (first_year + i) ∷ []) e m → n + m < 2 ^ 64
     vintage_fits p =
         paid_small h.ok (paid_more h.ok h.paid p) (map (turn y) (rising (first_year + i + 1) (years - (i + 1))))
-        (subst (Payable Y l s c)
+        (subst (Payable b c)
         (vintages_split y i t
         ∙ sym (append_assoc (vintages_passed y i) (turn y (first_year + i) ∷ [])
         (map (turn y) (rising (first_year + i + 1) (years - (i + 1)))))) h.ok)
 
-  pub vintages_done : {y i n : ℕ} {l' s' : List ℕ} → AtVintage Y l s c y i l' s' n → years ≤ i → Paid Y l s c (turns_of y) l' s' n
-  vintages_done {y} {i} h e = let w : i ≡ years = omega (arith, h.passed) in rw w at h.paid
-
-  module _ {i n : ℕ} {l' s' : List ℕ} (h : AtYear Y l s c i l' s' n) (t : i < years) where
-    pub year_payable : Payable Y l' s' c (turns_of (first_year + i))
+  module _ {i n : ℕ} {d : Book} (h : AtYear b c i d n) (t : i < years) where
+    pub year_payable : Payable d c (turns_of (first_year + i))
     year_payable =
         payable_next h.ok h.paid (turns_of (first_year + i)) (turns (rising (first_year + i + 1) (years - (i + 1))) model_years)
-        (subst (Payable Y l s c) (years_split i t) h.ok)
+        (subst (Payable b c) (years_split i t) h.ok)
 
-    pub next_year :
-        {m : ℕ} {l'' s'' : List ℕ} → Paid Y l' s' c (turns_of (first_year + i)) l'' s'' m → AtYear Y l s c (i + 1) l'' s'' (n + m)
+    pub next_year : {m : ℕ} {e : Book} → Paid d c (turns_of (first_year + i)) e m → AtYear b c (i + 1) e (n + m)
     next_year p = record { passed = omega arith; ok = h.ok; paid = rw (years_on i) (paid_more h.ok h.paid p) }
 
-    pub year_fits : {m : ℕ} {l'' s'' : List ℕ} → Paid Y l' s' c (turns_of (first_year + i)) l'' s'' m → n + m < 2 ^ 64
+    pub year_fits : {m : ℕ} {e : Book} → Paid d c (turns_of (first_year + i)) e m → n + m < 2 ^ 64
     year_fits p =
         paid_small h.ok (paid_more h.ok h.paid p) (turns (rising (first_year + i + 1) (years - (i + 1))) model_years)
-        (subst (Payable Y l s c)
+        (subst (Payable b c)
         (years_split i t
         ∙ sym (append_assoc (years_passed i) (turns_of (first_year + i))
         (turns (rising (first_year + i + 1) (years - (i + 1))) model_years))) h.ok)
 
-  pub years_done : {i n : ℕ} {l' s' : List ℕ} → AtYear Y l s c i l' s' n → years ≤ i → Paid Y l s c all_turns l' s' n
-  years_done {i} h e = let w : i ≡ years = omega (arith, h.passed) in rw w at h.paid
-
 -- ---- a whole cover
-pub cover_payable :
-    (b : Book) (c : Cover) → Sized b → Coverable b c → moved_by b c < 2 ^ 64
-    → Payable b.open_year b.lots b.shortages c all_turns
+pub cover_payable : (b : Book) (c : Cover) → Sized b → Coverable b c → moved_by b c < 2 ^ 64 → Payable b c all_turns
 unfolding coverage
 cover_payable b c z g h =
     record {

@@ -1,20 +1,25 @@
 -- The walks of the soundness test: what they read, as the specification says it, and that one fault decides.
-use Prim.Native.Nat.{ℕ, ◌+◌, ◌*◌, ◌^◌, ◌<◌, ◌≤◌}
-use mathlib.Core.Bool.{Bool, true, false}
+use Prim.Native.Nat.{ℕ, zero, suc, ◌+◌, ◌*◌, ◌^◌, ◌<◌, ◌≤◌}
+use mathlib.Core.Bool.{Bool, true, false, ◌||◌}
 use mathlib.Core.List.{List}
-use mathlib.Core.Path.{◌≡◌, sym, ◌∙◌, ap, ap₂}
+use mathlib.Core.Path.{◌≡◌, refl, sym, ◌∙◌, ap, ap₂}
 use native.Mathlib.Omega.{arith}
 use borrow.Author.Tests.{lt-leb, le-leb}
-use lib.ListN.{get_or}
+use lib.Dec.{ltb}
+use lib.ListN.{get_or, take, drop, length}
+use Rattle.std.specs.List.{list_any}
+use Rattle.std.proofs.Common.{add-one}
+use Rattle.std.proofs.lemmas.List.{get_or-drop, length-drop}
+use Rattle.std.proofs.lemmas.List.Folds.{list_any_more}
 use lib.Signed.{mag}
 use mir.Syntax.{w64}
 use mir.Val.{to_z, of_z}
 use Rattle.figuring.specs.Years.{first_year}
 use Rattle.figuring.proofs.SignedLaws.{heard}
-use Rattle.book.specs.Sizes.{makers, sets, families, years, lots_most}
+use Rattle.book.specs.Sizes.{makers, sets, families, years, places, lots_most}
 use Rattle.figuring.specs.Below.{all_below}
-use Rattle.book.specs.Below.{sum_below}
-use Rattle.book.specs.Ledger.{key, cell, figure_at, part_at}
+use Rattle.book.specs.Below.{any_below, sum_below}
+use Rattle.book.specs.Ledger.{key, cell, figure_at, part_at, has_shortage}
 use Rattle.book.specs.Soundness.{part_sound, family_sound, figures_sound, year_sound, cell_sound, maker_sound, cells_sound}
 use Rattle.book.specs.Soundness.{lot_of, total_sound, set_sound, totals_sound}
 use Rattle.book.specs.declared.ledger.Book.{Book}
@@ -89,3 +94,26 @@ pub total_done :
     → m ≤ makers → makers ≤ m → sum_below m (lot_of l s i) ≤ lots_most → total_sound l s i ≡ true
 unfolding total_sound
 total_done l s i m u g h = le-leb (sum_below makers (lot_of l s i)) lots_most (omega (arith, sum_done (lot_of l s i) makers m u g))
+
+-- ---- a cell's figures, read as one slice
+any_in :
+    (p : ℕ → Bool) (n : ℕ) (xs : List ℕ) → n ≤ length xs
+    → list_any p (take n xs) ≡ any_below n (λ i. p (get_or xs i 0))
+unfolding any_below
+any_in p zero xs h = refl
+any_in p (suc n) xs h =
+    rw (← add-one n) (list_any_more p xs n 0 (omega arith))
+    ∙ ap (λ (t : Bool). t || p (get_or xs n 0)) (any_in p n xs (omega arith))
+
+any_same : (n : ℕ) (p q : ℕ → Bool) → ((i : ℕ) → p i ≡ q i) → any_below n p ≡ any_below n q
+unfolding any_below
+any_same zero p q h = refl
+any_same (suc n) p q h = ap₂ ◌||◌ (any_same n p q h) (h n)
+
+pub any_year :
+    (l : List ℕ) (m s : ℕ) → length l ≡ places → m < makers → s < sets
+    → list_any (ltb 0) (take years (drop (cell m s * years) l)) ≡ has_shortage l m s
+unfolding has_shortage
+any_year l m s h hm hs =
+    any_in (ltb 0) years (drop (cell m s * years) l) (omega (arith, h, length-drop (cell m s * years) l))
+    ∙ any_same years _ _ (λ i. ap (ltb 0) (get_or-drop (cell m s * years) l i 0 ∙ sym (at_year l m s i)))

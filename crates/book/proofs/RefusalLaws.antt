@@ -1,18 +1,18 @@
 -- No refusal has the number 0; and demand 1: what a call answers, refused or accepted.
 use Prim.Native.Nat.{ℕ, ◌<◌}
 use mathlib.Core.Bool.{true, false, false≢true, true≢false}
-use mathlib.Core.Path.{◌≡◌, refl, sym, ◌∙◌}
+use mathlib.Core.Path.{◌≡◌, refl, sym, ap, ◌∙◌}
 use native.Mathlib.Omega.{arith}
 use lib.IntN.{pos}
 use Rattle.figuring.specs.Tables.{Table}
-use Rattle.book.specs.Refusals.{number_of, refusal_in, values_in, result_in}
+use Rattle.book.specs.Refusals.{Answered, number_of, refusal_in, values_in, result_in}
 use Rattle.book.specs.Rules.{posted}
 use Rattle.book.specs.Demand3.{is_accepted}
 use Rattle.book.specs.Demand1.{Demand1}
 use Rattle.book.specs.declared.ledger.Book.{Book}
 use Rattle.book.specs.declared.kinds.Call.{Call}
-use Rattle.book.specs.declared.answers.Answer.{Answer}
-use Rattle.book.specs.declared.answers.Answer.TheVariants.{Refused, Filed, Closed, Left}
+use Rattle.std.specs.Prelude.{Ok, Err, is_ok}
+use Rattle.book.specs.declared.answers.Posted.{Posted}
 use Rattle.book.specs.declared.answers.Refusal.{Refusal}
 use Rattle.book.specs.declared.answers.Refusal.TheVariants.{NotAForm, UnsoundBook, UnknownMaker, UnknownSet}
 use Rattle.book.specs.declared.answers.Refusal.TheVariants.{YearNotOpen, NoStandard, UnknownFamily, OutOfLimits}
@@ -48,26 +48,20 @@ number_above_0 ShortBuffer = omega arith
 number_above_0 NotABook = omega arith
 
 -- ---- what an answer says of itself
-pub accepted_number : (a : Answer) → is_accepted a ≡ true → refusal_in a ≡ 0
+pub accepted_number : (a : Answered) → is_accepted a ≡ true → refusal_in a ≡ 0
 unfolding is_accepted refusal_in
-accepted_number (Refused r) e = absurd (false≢true e)
-accepted_number (Filed p n) e = refl
-accepted_number (Closed n) e = refl
-accepted_number (Left m) e = refl
+accepted_number (Err r) e = absurd (false≢true e)
+accepted_number (Ok a) e = refl
 
-refused_number : (a : Answer) → is_accepted a ≡ false → 0 < refusal_in a
+refused_number : (a : Answered) → is_accepted a ≡ false → 0 < refusal_in a
 unfolding is_accepted refusal_in
-refused_number (Refused r) e = number_above_0 r
-refused_number (Filed p n) e = absurd (true≢false e)
-refused_number (Closed n) e = absurd (true≢false e)
-refused_number (Left m) e = absurd (true≢false e)
+refused_number (Err r) e = number_above_0 r
+refused_number (Ok a) e = absurd (true≢false e)
 
-refused_zeros : (a : Answer) → is_accepted a ≡ false → (i : ℕ) → result_in a i ≡ pos 0
+refused_zeros : (a : Answered) → is_accepted a ≡ false → (i : ℕ) → result_in a i ≡ pos 0
 unfolding is_accepted values_in
-refused_zeros (Refused r) e i = refl
-refused_zeros (Filed p n) e i = absurd (true≢false e)
-refused_zeros (Closed n) e i = absurd (true≢false e)
-refused_zeros (Left m) e i = absurd (true≢false e)
+refused_zeros (Err r) e i = refl
+refused_zeros (Ok a) e i = absurd (true≢false e)
 
 -- ---- what a call answers
 pub demand1 : (t : Table) (b : Book) (c : Call) → Demand1 t b c
@@ -81,3 +75,15 @@ demand1 t b c =
           by_verdict t b c (λ p. is_accepted p.answer ≡ false → p.book ≡ b) (λ r a. refl)
           (λ s e a. absurd (true≢false (sym (lawful t b c s e).answered ∙ a)));
     }
+
+-- a step that did not accept leaves the book: so nothing need be stored back
+pub left_alone :
+    (t : Table) (b : Book) (c : Call) {p : Posted} → p ≡ posted t b c → is_ok p.answer ≡ false
+    → (p.answer ≡ (posted t b c).answer) × (b ≡ (posted t b c).book)
+unfolding is_accepted
+left_alone t b c {p} e k =
+    (ap (λ (q : Posted). q.answer) e, sym ((demand1 t b c).unchanged (go (posted t b c).answer (rw e at k))))
+  where
+    go : (a : Answered) → is_ok a ≡ false → is_accepted a ≡ false
+    go (Ok a) k = k
+    go (Err r) k = refl

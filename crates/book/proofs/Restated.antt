@@ -33,6 +33,7 @@ use Rattle.book.specs.FiveDecimals.{restated_call, restated_book, restated_answe
 use Rattle.book.specs.declared.ledger.Book.{Book}
 use Rattle.book.specs.declared.kinds.Call.{Call}
 use Rattle.book.specs.declared.answers.Answer.{Answer}
+use Rattle.std.specs.Prelude.{Ok}
 use Rattle.book.specs.declared.answers.Posted.{Posted}
 use Rattle.figuring.proofs.BelowLaws.{all_at, all_of}
 use Rattle.book.proofs.TableLaws.{alike}
@@ -160,7 +161,7 @@ module _ (b : Book) where
       rw (part_finer _ f.fcl f.cf f.volume f.life, map_store b.parts (filing_cell f * families + f.family) (part_for t f))
   same_done t (Call.Close y) =
       λ i. record {
-        answer = Answer.Closed (count_below cells (λ c. ltb 0 (shortfall_of (same_net c i))));
+        answer = Ok (Answer.Closed (count_below cells (λ c. ltb 0 (shortfall_of (same_net c i)))));
         book = record {
           open_year = b.open_year + 1;
           marks = replicate cells 0;

@@ -1,6 +1,6 @@
 -- Card 6, "Amended level": an amendment is a filing whose `amends` is set. Rules, Postings and Accounts have it; here the
 -- card's words stand by themselves, for any book. The proofs are in proofs/Amendments.antt and proofs/LastFigures.antt.
-use Rattle.std.specs.Prelude.{ℕ, ◌+◌, ◌*◌, true, false, cond, List, ◌∷◌, ◌++◌, ◌≡◌, eqb, get_or, set as store}
+use Rattle.std.specs.Prelude.{ℕ, ◌+◌, ◌*◌, true, false, cond, List, ◌∷◌, ◌++◌, ◌≡◌, eqb, get_or, set as store, Ok}
 use Rattle.figuring.specs.Tables.{Table}
 use Rattle.book.specs.Filings.{with_amends}
 use Rattle.book.specs.Sizes.{families}
@@ -33,7 +33,7 @@ amended t b f = posted t b (Call.File (with_amends true f))
 abbrev pub replaced : Table → Book → Filing → Posted
 replaced t b f =
     record {
-      answer = Answer.Filed (record { 0 = part_for t f }) (filed_in (get_or b.marks (filing_cell f) 0));
+      answer = Ok (Answer.Filed (record { 0 = part_for t f }) (filed_in (get_or b.marks (filing_cell f) 0)));
       book = with_families b b.marks (store b.parts (filing_cell f * families + f.family) (part_for t f));
     }
 

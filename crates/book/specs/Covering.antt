@@ -4,7 +4,7 @@ use Rattle.std.specs.Prelude.{ℕ, ◌<◌, true, List, [], ◌∷◌, ◌++◌,
 use Rattle.book.specs.Sizes.{makers, sets}
 use Rattle.book.specs.Ledger.{key, figure_at, lower}
 use Rattle.book.specs.Soundness.{sound}
-use Rattle.book.specs.Refusals.{Row, ◌⇒◌, first_refusal}
+use Rattle.book.specs.Refusals.{Verdict, Row, ◌⇒◌, first_refusal}
 use Rattle.book.specs.Postings.{moved, applied_lot, covered_shortage}
 use Rattle.book.specs.Rules.{head_rows}
 use Rattle.book.specs.Coverage.{Standing, standing, Payment, coverage, total}
@@ -14,8 +14,6 @@ use Rattle.book.specs.declared.kinds.Cover.{Cover}
 use Rattle.book.specs.declared.covering.Covered.{Covered}
 use Rattle.book.specs.declared.answers.Refusal.{Refusal}
 use Rattle.book.specs.declared.answers.Refusal.TheVariants.{UnknownMaker, UnknownSet}
-use Rattle.book.specs.declared.answers.Verdict.{Verdict}
-use Rattle.book.specs.declared.answers.Verdict.TheVariants.{Accepted, Refuse}
 
 -- a payment is an application of the maker and the set
 abbrev pub application : Cover → Payment → Application
@@ -72,8 +70,8 @@ abbrev pub paid : Book → Cover → Covered
 paid b c = record { moved = record { 0 = moved_by b c }; book = after_cover b c }
 
 abbrev pub paid_or : Verdict → Covered → Result Covered Refusal
-paid_or Accepted d = Ok d
-paid_or (Refuse r) d = Err r
+paid_or (Ok u) d = Ok d
+paid_or (Err r) d = Err r
 
 unfoldable pub paid_oldest : Book → Cover → Result Covered Refusal
 paid_oldest b c = paid_or (first_refusal (rows_of b c)) (paid b c)

@@ -4,7 +4,8 @@
 -- book reaches them once the list has begun.
 -- Card 7: each call of a list is handed a table of its own, accepted or not, so that this holds "for all accepted tables
 -- together", even of one that changes from call to call.
-use Rattle.std.specs.Prelude.{◌+◌, ◌≤◌, Bool, true, false, cond, List, [], ◌∷◌, ◌++◌, ◌≡◌, eqb, pos}
+use Rattle.std.specs.Prelude.{◌+◌, ◌≤◌, Bool, true, false, cond, List, [], ◌∷◌, ◌++◌, ◌≡◌, eqb, pos, Ok, Err}
+use Rattle.book.specs.Refusals.{Answered}
 use Rattle.book.specs.Ledger.{Key, In, cell, figure_at, part_at}
 use Rattle.book.specs.Postings.{covered_shortage}
 use Rattle.figuring.specs.Tables.{Table}
@@ -14,15 +15,11 @@ use Rattle.book.specs.Accounts.{bought, sold, applied, retired, covered}
 use Rattle.book.specs.declared.ledger.Book.{Book}
 use Rattle.book.specs.declared.kinds.Call.{Call}
 use Rattle.book.specs.declared.kinds.Application.{Application}
-use Rattle.book.specs.declared.answers.Answer.{Answer}
-use Rattle.book.specs.declared.answers.Answer.TheVariants.{Refused, Filed, Closed, Left}
 
 -- "Accepted means answered without" a refusal.
-unfoldable pub is_accepted : Answer → Bool
-is_accepted (Refused r) = false
-is_accepted (Filed p n) = true
-is_accepted (Closed n) = true
-is_accepted (Left m) = true
+unfoldable pub is_accepted : Answered → Bool
+is_accepted (Err r) = false
+is_accepted (Ok a) = true
 
 abbrev pub entry_of : Book → Request → Entry
 entry_of b r = record { table = r.table; call = r.call; accepted = is_accepted (posted_to b r).answer }

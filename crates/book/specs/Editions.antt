@@ -1,11 +1,10 @@
 -- Card 5, "Alternative standards, two editions", in the book: "Balances account for families under the standard they
 -- named", and 17 is "checked after 6". The proofs are in proofs/NamedStandard.antt.
-use Rattle.std.specs.Prelude.{ℕ, ◌<◌, true, false, ◌≡◌}
+use Rattle.std.specs.Prelude.{ℕ, ◌<◌, true, false, ◌≡◌, Some}
 use Rattle.figuring.specs.Standards.{is_absent}
 use Rattle.figuring.specs.Tables.{Table, accepted_table}
 use Rattle.figuring.specs.Editions.{standard_under, no_edition}
 use Rattle.figuring.specs.Parts.{part_of}
-use Rattle.figuring.specs.declared.standards.Standard.TheVariants.{Given}
 use Rattle.book.specs.Filings.{with_edition}
 use Rattle.book.specs.Sizes.{makers, sets, all_closed}
 use Rattle.book.specs.Soundness.{sound}
@@ -21,7 +20,7 @@ use Rattle.book.specs.declared.kinds.Filing.{Filing}
 -- the accounts count, is figured from that standard; and it is what the filing is answered.
 pub record ByNamed (t : Table) (b : Book) (f : Filing) : Type 0 where
   pub standard : ℕ
-  pub named : standard_under (ordinary_for t f) f.edition f.set f.vehicle_use f.year ≡ Given standard
+  pub named : standard_under (ordinary_for t f) f.edition f.set f.vehicle_use f.year ≡ Some standard
   pub part : part_for t f ≡ part_of standard f.fcl f.cf f.volume f.life
   pub answered : result_in (posted t b (Call.File f)).answer 0 ≡ part_for t f
 

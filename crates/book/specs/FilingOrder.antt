@@ -5,10 +5,10 @@
 -- The card's book is sound and its filings are of one model year. Neither is asked here: a book that is not sound
 -- refuses every filing by 2, and a filing of another year than the open one is refused wherever it stands. What is
 -- asked is `Sized`: every book of the program is.
-use Rattle.std.specs.Prelude.{ℕ, ◌<◌, Bool, true, List, [], ◌∷◌, map, ◌≡◌, get_or, ℤ}
+use Rattle.std.specs.Prelude.{ℕ, ◌<◌, Bool, true, List, [], ◌∷◌, map, ◌≡◌, get_or, ℤ, Ok, Err}
 use Rattle.book.specs.Sizes.{makers, sets, families}
 use Rattle.book.specs.Ledger.{cell, marked, part_at}
-use Rattle.book.specs.Refusals.{result_in}
+use Rattle.book.specs.Refusals.{Answered, result_in}
 use Rattle.book.specs.Postings.{part_for, with_families}
 use Rattle.figuring.specs.Tables.{Table}
 use Rattle.book.specs.Rules.{Request, handed, posted}
@@ -18,9 +18,8 @@ use Rattle.book.specs.Orders.{Among, without, Reordered, EveryOrder}
 use Rattle.book.specs.declared.ledger.Book.{Book}
 use Rattle.book.specs.declared.kinds.Call.{Call}
 use Rattle.book.specs.declared.kinds.Filing.{Filing}
-use Rattle.book.specs.declared.answers.Answer.{Answer}
 use Rattle.book.specs.declared.answers.Posted.{Posted}
-use Rattle.book.specs.declared.answers.Answer.TheVariants.{Refused, Filed, Closed, Left}
+use Rattle.book.specs.declared.answers.Answer.TheVariants.{Filed, Closed, Left}
 
 -- what a filing names: "maker, set and number"
 pub record Family : Type 0 where
@@ -57,14 +56,14 @@ lodged b f = posted f.table b (Call.File f.filing)
 
 -- "the same part or the same refusal": the whole answer but for the count, which is put at 0. "Only the count of filed
 -- families may differ."
-abbrev pub count_aside : Answer → Answer
-count_aside (Refused r) = Refused r
-count_aside (Filed p n) = Filed p 0
-count_aside (Closed n) = Closed n
-count_aside (Left m) = Left m
+abbrev pub count_aside : Answered → Answered
+count_aside (Err r) = Err r
+count_aside (Ok (Filed p n)) = Ok (Filed p 0)
+count_aside (Ok (Closed n)) = Ok (Closed n)
+count_aside (Ok (Left m)) = Ok (Left m)
 
 -- what a filing gets where others went before it
-abbrev pub gets_after : Book → List Lodged → Lodged → Answer
+abbrev pub gets_after : Book → List Lodged → Lodged → Answered
 gets_after b before f = count_aside (lodged (after_filings b before) f).answer
 
 -- ---- the card's sentence
@@ -87,7 +86,7 @@ pub record SaysNoLess : Type 0 where
   pub more :
       (f : Lodged) (fs : List Lodged) → ((g : Lodged) → Among g fs → named_by f ≡ named_by g → ⊥) → NoTwoAlike fs
       → NoTwoAlike (f ∷ fs)
-  pub aside : (a c : Answer) → count_aside a ≡ count_aside c → result_in a 1 ≡ result_in c 1 → a ≡ c
+  pub aside : (a c : Answered) → count_aside a ≡ count_aside c → result_in a 1 ≡ result_in c 1 → a ≡ c
 
 -- ---- the reason
 

@@ -2,7 +2,7 @@
 -- rules with document 01's figures of CF and parts, as they were before the card, stand beside those of now, and a
 -- session under the one beside the same calls, restated, under the other. `SameSessions` is the statement; the proofs are
 -- in proofs/Restated.antt.
-use Rattle.std.specs.Prelude.{ℕ, Bool, true, ◌&&◌, List, [], ◌∷◌, ◌++◌, map, ◌≡◌, leb, ℤ, pos, nat_abs, get_or}
+use Rattle.std.specs.Prelude.{ℕ, Bool, true, ◌&&◌, List, [], ◌∷◌, ◌++◌, map, ◌≡◌, leb, ℤ, pos, nat_abs, get_or, Ok, Err}
 use Rattle.figuring.specs.Tables.{Table}
 use Rattle.figuring.specs.FiveDecimals.{old_cf, old_unit, old_part_most, restated_cf, restated_part}
 use Rattle.book.specs.Filings.{with_cf}
@@ -10,13 +10,12 @@ use Rattle.book.specs.Sizes.{all_parts}
 use Rattle.figuring.specs.Below.{all_below}
 use Rattle.book.specs.Ledger.{marked}
 use Rattle.book.specs.Soundness.{sound, part_sound}
-use Rattle.book.specs.Refusals.{first_refusal}
+use Rattle.book.specs.Refusals.{Answered, first_refusal}
 use Rattle.book.specs.Postings.{fresh_book, with_families, closed_in}
 use Rattle.book.specs.Rules.{Request, head_rows, table_rows, own_rows, done, outcome, posted}
 use Rattle.book.specs.declared.ledger.Book.{Book}
 use Rattle.book.specs.declared.kinds.Call.{Call}
-use Rattle.book.specs.declared.answers.Answer.{Answer}
-use Rattle.book.specs.declared.answers.Answer.TheVariants.{Refused, Filed, Closed, Left}
+use Rattle.book.specs.declared.answers.Answer.TheVariants.{Filed, Closed, Left}
 use Rattle.book.specs.declared.answers.Posted.{Posted}
 
 -- the card's bound, of every part of a family that is filed: "A sound part lies within ±3.84 × 10^16"
@@ -64,11 +63,11 @@ restated_call = on_cf restated_cf
 abbrev pub restated_book : Book → Book
 restated_book b = with_families b b.marks (map restated_part b.parts)
 
-abbrev pub restated_answer : Answer → Answer
-restated_answer (Refused r) = Refused r
-restated_answer (Filed p n) = Filed (record { 0 = restated_part p.0 }) n
-restated_answer (Closed n) = Closed n
-restated_answer (Left m) = Left m
+abbrev pub restated_answer : Answered → Answered
+restated_answer (Err r) = Err r
+restated_answer (Ok (Filed p n)) = Ok (Filed (record { 0 = restated_part p.0 }) n)
+restated_answer (Ok (Closed n)) = Ok (Closed n)
+restated_answer (Ok (Left m)) = Ok (Left m)
 
 -- ---- the promise
 

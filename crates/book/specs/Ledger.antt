@@ -1,6 +1,6 @@
 -- Document 01, "The book": what stands where. Lots and shortages are read by `figure_at` and moved by `lower` and
 -- `raise`, at a key; a close writes them by `netted`, and a filing its part by `stored` (Postings).
-use Rattle.std.specs.Prelude.{ℕ, ◌+◌, ◌-◌, ◌*◌, ◌/◌, ◌%◌, ◌^◌, ◌≤◌, ◌<◌, Bool, List, ltb, eqb, get_or, set as store, ℤ, pos}
+use Rattle.std.specs.Prelude.{ℕ, ◌+◌, ◌-◌, ◌*◌, ◌/◌, ◌%◌, ◌^◌, ◌≤◌, ◌<◌, Bool, ◌&&◌, List, ltb, eqb, get_or, set as store, ℤ, pos}
 use Rattle.std.specs.Int.Bits.{bit_or}
 use Rattle.std.specs.Int.Count.{ones}
 use Rattle.figuring.specs.Years.{first_year, last_year}
@@ -8,7 +8,7 @@ use Rattle.book.specs.Sizes.{makers, sets, families, years}
 use Rattle.book.specs.Below.{any_below, sum_below_ℤ}
 use Rattle.book.specs.declared.ledger.Book.{Book}
 
--- the book that an open year and four arrays make: soundness speaks of it where a book's arrays are lent
+-- the book that an open year and four arrays make
 abbrev pub book_of : ℕ → List ℕ → List ℤ → List ℕ → List ℕ → Book
 book_of y m p l s = record { open_year = y; marks = m; parts = p; lots = l; shortages = s }
 
@@ -27,6 +27,10 @@ pub record In (k : Key) : Type 0 where
   pub set : k.set < sets
   pub from : first_year ≤ k.year
   pub upto : k.year ≤ last_year
+
+-- whether a maker, a set and a family number are the book's
+unfoldable pub is_family : ℕ → ℕ → ℕ → Bool
+is_family m s n = ltb m makers && (ltb s sets && ltb n families)
 
 -- "A cell is one maker and one set."
 abbrev pub cell : ℕ → ℕ → ℕ

@@ -2,6 +2,7 @@ pub mod Sizes
 pub mod Filings
 pub mod Below
 pub mod Ledger
+pub mod Places
 pub mod Soundness
 pub mod Refusals
 pub mod Postings

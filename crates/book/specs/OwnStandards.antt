@@ -1,10 +1,9 @@
 -- Card 7, "The customer's own standards", in the book: a call is handed a table beside the book. Rules, Postings and
 -- Accounts have it; here the card's words stand by themselves. The proofs are in proofs/OwnStandards.antt.
 use Rattle.std.specs.Prelude.{ℕ, ◌*◌, ◌≤◌, true, false, List, [], ◌∷◌, ◌++◌, ◌≡◌, nat_abs}
-use Rattle.figuring.specs.Standards.{standard_for}
+use Rattle.figuring.specs.Standards.{Standard, standard_for}
 use Rattle.figuring.specs.Tables.{Table, accepted_table, built_in}
 use Rattle.figuring.specs.Parts.{cf_most, volume_most, life_most}
-use Rattle.figuring.specs.declared.standards.Standard.{Standard}
 use Rattle.book.specs.Soundness.{sound}
 use Rattle.book.specs.Refusals.{Row, first_refusal, refusal_in}
 use Rattle.book.specs.Postings.{part_for, part_beside, filing_cell, stored}

@@ -2,7 +2,8 @@
 use Rattle.std.specs.Prelude.{ℕ, ◌^◌, ◌<◌, ◌≤◌, List, map, ◌≡◌, length}
 use Rattle.book.specs.Sizes.{makers, sets, places, all_closed}
 use Rattle.book.specs.Coverage.{Turn, turn, Payment, payments, turns, model_years, total}
-use Rattle.book.specs.Covering.{application, in_lists, lots_paid, shortages_paid}
+use Rattle.book.specs.Covering.{application, in_book, all_applied}
+use Rattle.book.specs.declared.ledger.Book.{Book}
 use Rattle.book.specs.declared.kinds.Cover.{Cover}
 
 -- a shortage's turns: each vintage, the oldest first; and those of every shortage
@@ -12,21 +13,20 @@ turns_of y = map (turn y) model_years
 abbrev pub all_turns : List Turn
 all_turns = turns model_years model_years
 
--- what is paid in some turns from the lists of a book
-abbrev pub paid_in : ℕ → List ℕ → List ℕ → Cover → List Turn → List Payment
-paid_in Y lots shortages c ts = payments (in_lists Y lots shortages c) ts
+-- what is paid in some turns from a book
+abbrev pub paid_in : Book → Cover → List Turn → List Payment
+paid_in b c ts = payments (in_book b c) ts
 
--- the turns can be paid: the cell and the lists are those of a book, and the sum of the Mg is below 2 ^ 64
-pub record Payable (Y : ℕ) (l s : List ℕ) (c : Cover) (ts : List Turn) : Type 0 where
+-- the turns can be paid: the cell is one of the book's, and the sum of the Mg is below 2 ^ 64
+pub record Payable (b : Book) (c : Cover) (ts : List Turn) : Type 0 where
   pub maker : c.maker < makers
   pub set : c.set < sets
-  pub upto : Y ≤ all_closed
-  pub lots : length l ≡ places
-  pub shortages : length s ≡ places
-  pub small : total (paid_in Y l s c ts) < 2 ^ 64
+  pub upto : b.open_year ≤ all_closed
+  pub lots : length b.lots ≡ places
+  pub shortages : length b.shortages ≡ places
+  pub small : total (paid_in b c ts) < 2 ^ 64
 
--- they were paid: the lists after them, and the Mg moved
-pub record Paid (Y : ℕ) (l s : List ℕ) (c : Cover) (ts : List Turn) (l' s' : List ℕ) (mg : ℕ) : Type 0 where
-  pub lots : l' ≡ lots_paid (map (application c) (paid_in Y l s c ts)) l
-  pub shortages : s' ≡ shortages_paid (map (application c) (paid_in Y l s c ts)) s
-  pub sum : mg ≡ total (paid_in Y l s c ts)
+-- they were paid: the book after them, and the Mg moved
+pub record Paid (b : Book) (c : Cover) (ts : List Turn) (after : Book) (mg : ℕ) : Type 0 where
+  pub book : after ≡ all_applied b (map (application c) (paid_in b c ts))
+  pub sum : mg ≡ total (paid_in b c ts)

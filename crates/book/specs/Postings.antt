@@ -1,14 +1,15 @@
 -- Document 01, "Postings": what each accepted call does to the book, and what it returns.
 use Rattle.std.specs.Prelude.{ℕ, zero, suc, ◌+◌, ◌-◌, ◌*◌, List, ltb, get_or, set as store, replicate, ℤ, pos}
+use Rattle.std.specs.Prelude.{Ok}
 use Rattle.figuring.specs.Years.{first_year}
 use Rattle.figuring.specs.Units.{engine_unit}
-use Rattle.figuring.specs.Standards.{grams_of}
+use Rattle.figuring.specs.Standards.{Standard, grams_of}
 use Rattle.figuring.specs.Tables.{Table, ordinary_in}
 use Rattle.figuring.specs.Editions.{standard_under}
 use Rattle.figuring.specs.Parts.{part_of}
 use Rattle.figuring.specs.Netting.{net_of, earned_of, shortfall_of}
-use Rattle.figuring.specs.declared.standards.Standard.{Standard}
 use Rattle.figuring.specs.declared.netting.Net.{Net}
+use Rattle.book.specs.Refusals.{Answered}
 use Rattle.book.specs.Sizes.{cells, families, years, places, all_parts}
 use Rattle.book.specs.Below.{count_below}
 use Rattle.book.specs.Ledger.{Key, key, cell, figure_at, lower, raise, with_mark, filed_in, cell_sum}
@@ -77,7 +78,7 @@ unfoldable pub stored : Book → ℕ → ℕ → ℤ → Posted
 stored b c family z =
     let mark = with_mark (get_or b.marks c 0) family in
     record {
-      answer = Answer.Filed (record { 0 = z }) (filed_in mark);
+      answer = Ok (Answer.Filed (record { 0 = z }) (filed_in mark));
       book = with_families b (store b.marks c mark) (store b.parts (c * families + family) z);
     }
 
@@ -106,7 +107,7 @@ netted i v (suc n) l = store (netted i v n l) (n * years + i) (v n)
 abbrev pub closed_in : ℕ → Book → Posted
 closed_in unit b =
     record {
-      answer = Answer.Closed (count_below cells (λ c. ltb 0 (shortfall_of (cell_net unit b c))));
+      answer = Ok (Answer.Closed (count_below cells (λ c. ltb 0 (shortfall_of (cell_net unit b c)))));
       book =
           record {
             open_year = b.open_year + 1;
@@ -132,8 +133,8 @@ moved b l s =
       shortages = s;
     }
 
-abbrev pub leaving : Book → Key → ℕ → Answer
-leaving b k n = Answer.Left (record { 0 = figure_at b.lots k - n })
+abbrev pub leaving : Book → Key → ℕ → Answered
+leaving b k n = Ok (Answer.Left (record { 0 = figure_at b.lots k - n }))
 
 -- "Trade (from, to, set, vintage, Mg): moves between two lots."
 abbrev pub seller_lot : Trade → Key

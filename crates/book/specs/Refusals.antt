@@ -1,5 +1,5 @@
 -- Document 01, "Refusal list": its numbers, and how an ordered table of tests refuses.
-use Rattle.std.specs.Prelude.{ℕ, Bool, true, false, List, [], ◌∷◌, ℤ, pos, get_or}
+use Rattle.std.specs.Prelude.{ℕ, Bool, true, false, List, [], ◌∷◌, ℤ, pos, get_or, Result, Ok, Err}
 use Rattle.book.specs.declared.answers.Refusal.{Refusal}
 use Rattle.book.specs.declared.answers.Refusal.TheVariants.{NotAForm, UnsoundBook, UnknownMaker, UnknownSet}
 use Rattle.book.specs.declared.answers.Refusal.TheVariants.{YearNotOpen, NoStandard, UnknownFamily, OutOfLimits}
@@ -8,9 +8,7 @@ use Rattle.book.specs.declared.answers.Refusal.TheVariants.{HasShortage, NoOpenS
 use Rattle.book.specs.declared.answers.Refusal.TheVariants.{NoEdition, NotFiled, NotATable, UnfitTable}
 use Rattle.book.specs.declared.answers.Refusal.TheVariants.{ShortBuffer, NotABook}
 use Rattle.book.specs.declared.answers.Answer.{Answer}
-use Rattle.book.specs.declared.answers.Answer.TheVariants.{Refused, Filed, Closed, Left}
-use Rattle.book.specs.declared.answers.Verdict.{Verdict}
-use Rattle.book.specs.declared.answers.Verdict.TheVariants.{Accepted, Refuse}
+use Rattle.book.specs.declared.answers.Answer.TheVariants.{Filed, Closed, Left}
 
 -- the paper's number of each refusal
 abbrev pub number_of : Refusal → ℕ
@@ -60,24 +58,26 @@ number_of ShortBuffer = 21
 -- isn't one of the book's (text only).
 number_of NotABook = 22
 
+-- what a call answers: what an accepted one gives, or the refusal
+abbrev pub Answered : Type 0
+Answered = Result Answer Refusal
+
 -- the number of an answer's refusal, 0 where the call was accepted
-unfoldable pub refusal_in : Answer → ℕ
-refusal_in (Refused r) = number_of r
-refusal_in (Filed p n) = 0
-refusal_in (Closed n) = 0
-refusal_in (Left m) = 0
+unfoldable pub refusal_in : Answered → ℕ
+refusal_in (Err r) = number_of r
+refusal_in (Ok a) = 0
 
 -- the values of an accepted call, in the paper's order: a filing's part and count, a close's cells that closed short,
 -- what is left in the paying lot
-unfoldable pub values_in : Answer → List ℤ
-values_in (Refused r) = []
-values_in (Filed p n) = p.0 ∷ pos n ∷ []
-values_in (Closed n) = pos n ∷ []
-values_in (Left m) = pos m.0 ∷ []
+unfoldable pub values_in : Answered → List ℤ
+values_in (Err r) = []
+values_in (Ok (Filed p n)) = p.0 ∷ pos n ∷ []
+values_in (Ok (Closed n)) = pos n ∷ []
+values_in (Ok (Left m)) = pos m.0 ∷ []
 
 -- the result at a place of an answer, from 0 on: its value there, and zero where it has none. So of a refusal, which
 -- has no values, each is "zero for the other results"
-abbrev pub result_in : Answer → ℕ → ℤ
+abbrev pub result_in : Answered → ℕ → ℤ
 result_in a i = get_or (values_in a) i (pos 0)
 
 -- one row of a call's table: a test, and the refusal where it holds
@@ -89,11 +89,15 @@ infix 10 ◌⇒◌
 abbrev pub ◌⇒◌ : Bool → Refusal → Row
 t ⇒ r = record { test = t; why = r }
 
+-- what a table of tests says: accepted, or the refusal
+abbrev pub Verdict : Type 0
+Verdict = Result (Unit {0}) Refusal
+
 abbrev pub or_else : Bool → Refusal → Verdict → Verdict
-or_else true r v = Refuse r
+or_else true r v = Err r
 or_else false r v = v
 
 -- refused with the first that applies, accepted when none does
 abbrev pub first_refusal : List Row → Verdict
-first_refusal [] = Accepted
+first_refusal [] = Ok tt
 first_refusal (x ∷ xs) = or_else x.test x.why (first_refusal xs)

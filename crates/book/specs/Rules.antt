@@ -3,8 +3,8 @@
 -- outcome. `CheckingOrder` has the rows by the papers' numbers. Card 7 hands a call a table of standards beside the book:
 -- filings and amendments read it, and no other call.
 -- "A call skips the entries that don't concern it." Entries 3 (in a trade), 5 and 14 are two tests, so two rows.
-use Rattle.std.specs.Prelude.{ℕ, Bool, true, false, not, List, [], ◌∷◌, ◌++◌, ◌≡◌, ltb, leb, eqb, get_or}
-use Rattle.figuring.specs.Standards.{is_absent}
+use Rattle.std.specs.Prelude.{ℕ, Bool, true, false, not, List, [], ◌∷◌, ◌++◌, ◌≡◌, ltb, leb, eqb, get_or, Ok, Err}
+use Rattle.figuring.specs.Standards.{Standard, is_absent}
 use Rattle.figuring.specs.Tables.{Table, accepted_table}
 use Rattle.figuring.specs.Editions.{no_edition}
 use Rattle.figuring.specs.Parts.{within_limits}
@@ -12,8 +12,7 @@ use Rattle.book.specs.Sizes.{makers, sets, families, all_closed}
 use Rattle.book.specs.Ledger.{figure_at, marked, has_shortage}
 use Rattle.book.specs.Soundness.{sound}
 use Rattle.figuring.specs.Life.{live, open_short}
-use Rattle.figuring.specs.declared.standards.Standard.{Standard}
-use Rattle.book.specs.Refusals.{Row, ◌⇒◌, first_refusal, number_of}
+use Rattle.book.specs.Refusals.{Answered, Verdict, Row, ◌⇒◌, first_refusal, number_of}
 use Rattle.book.specs.Postings.{filing_done, close_done, trade_done, application_done, retirement_done}
 use Rattle.book.specs.Postings.{ordinary_for, filing_cell, seller_lot, applied_lot, covered_shortage, retired_lot}
 use Rattle.book.specs.declared.ledger.Book.{Book}
@@ -22,15 +21,12 @@ use Rattle.book.specs.declared.kinds.Filing.{Filing}
 use Rattle.book.specs.declared.kinds.Trade.{Trade}
 use Rattle.book.specs.declared.kinds.Application.{Application}
 use Rattle.book.specs.declared.kinds.Retirement.{Retirement}
-use Rattle.book.specs.declared.answers.Answer.{Answer}
 use Rattle.book.specs.declared.answers.Posted.{Posted}
 use Rattle.book.specs.declared.answers.Refusal.{Refusal}
 use Rattle.book.specs.declared.answers.Refusal.TheVariants.{UnsoundBook, UnknownMaker, UnknownSet, YearNotOpen}
 use Rattle.book.specs.declared.answers.Refusal.TheVariants.{NoStandard, UnknownFamily, OutOfLimits, AlreadyFiled}
 use Rattle.book.specs.declared.answers.Refusal.TheVariants.{VintageNotLive, ZeroAmount, SameMaker, HasShortage}
 use Rattle.book.specs.declared.answers.Refusal.TheVariants.{NoOpenShortage, AboveLot, AboveShortage, NoEdition, NotFiled, UnfitTable}
-use Rattle.book.specs.declared.answers.Verdict.{Verdict}
-use Rattle.book.specs.declared.answers.Verdict.TheVariants.{Accepted, Refuse}
 
 -- ---- the head: what comes before all that a call tests itself. It reads of the book whether it is sound; then come the
 -- rows of what stands beside the call
@@ -133,13 +129,17 @@ done t b (Call.Trade x) = trade_done b x
 done t b (Call.Apply p) = application_done b p
 done t b (Call.Retire p) = retirement_done b p
 
+-- an answer or a refusal, and the book after it
+abbrev pub answered : Answered → Book → Posted
+answered a b = record { answer = a; book = b }
+
 -- "A refusal gives its number, zero for the other results, and the book unchanged."
 abbrev pub refused_with : Book → Refusal → Posted
-refused_with b r = record { answer = Answer.Refused r; book = b }
+refused_with b r = answered (Err r) b
 
 abbrev pub outcome : Verdict → Book → Posted → Posted
-outcome Accepted b p = p
-outcome (Refuse r) b p = refused_with b r
+outcome (Ok u) b p = p
+outcome (Err r) b p = refused_with b r
 
 -- what a call gives that is handed a table: its answer and the book after it
 unfoldable pub posted : Table → Book → Call → Posted

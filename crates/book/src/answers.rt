@@ -5,36 +5,45 @@ ghost use Rattle.book.specs.Refusals.{number_of};
 use crate::ledger::Book;
 use figuring::units::{Mg, Part};
 
-// One variant for each number of the refusal list, in its order.
-#[derive(Clone, Copy)]
+// The refusal list: each variant has the list's number.
+#[derive(Clone, Copy, Debug, PartialEq, Eq)]
 pub enum Refusal {
-    NotAForm,
-    UnsoundBook,
-    UnknownMaker,
-    UnknownSet,
-    YearNotOpen,
-    NoStandard,
-    UnknownFamily,
-    OutOfLimits,
-    AlreadyFiled,
-    VintageNotLive,
-    ZeroAmount,
-    SameMaker,
-    HasShortage,
-    NoOpenShortage,
-    AboveLot,
-    AboveShortage,
-    NoEdition,
-    NotFiled,
-    NotATable,
-    UnfitTable,
-    ShortBuffer,
-    NotABook,
+    NotAForm = 1,
+    UnsoundBook = 2,
+    UnknownMaker = 3,
+    UnknownSet = 4,
+    YearNotOpen = 5,
+    NoStandard = 6,
+    UnknownFamily = 7,
+    OutOfLimits = 8,
+    AlreadyFiled = 9,
+    VintageNotLive = 10,
+    ZeroAmount = 11,
+    SameMaker = 12,
+    HasShortage = 13,
+    NoOpenShortage = 14,
+    AboveLot = 15,
+    AboveShortage = 16,
+    NoEdition = 17,
+    NotFiled = 18,
+    NotATable = 19,
+    UnfitTable = 20,
+    ShortBuffer = 21,
+    NotABook = 22,
 }
 
+// The number of a refusal.
+impl From<Refusal> for u64 {
+    ghost from_gives = { λ why number. number ≡ number_of why };
+
+    fn from(why: Refusal) -> u64 {
+        why as u64
+    }
+}
+
+// What an accepted call gives.
 #[derive(Clone, Copy)]
 pub enum Answer {
-    Refused(Refusal),
     // The part, and how many families of the cell are now filed.
     Filed(Part, u64),
     // How many cells closed short.
@@ -43,46 +52,9 @@ pub enum Answer {
     Left(Mg),
 }
 
-// An answer, and the book after it.
+// The answer to a call, or what refuses it; and the book after it.
 #[derive(Clone, Copy)]
 pub struct Posted {
-    pub answer: Answer,
+    pub answer: Result<Answer, Refusal>,
     pub book: Book,
-}
-
-// What a call's ordered table of refusals says.
-#[derive(Clone, Copy)]
-pub enum Verdict {
-    Accepted,
-    Refuse(Refusal),
-}
-
-// The number of a refusal.
-pub fn refusal_number(r: Refusal) -> u64
-    ensures { result ≡ number_of r }
-{
-    match r {
-        Refusal::NotAForm => 1,
-        Refusal::UnsoundBook => 2,
-        Refusal::UnknownMaker => 3,
-        Refusal::UnknownSet => 4,
-        Refusal::YearNotOpen => 5,
-        Refusal::NoStandard => 6,
-        Refusal::UnknownFamily => 7,
-        Refusal::OutOfLimits => 8,
-        Refusal::AlreadyFiled => 9,
-        Refusal::VintageNotLive => 10,
-        Refusal::ZeroAmount => 11,
-        Refusal::SameMaker => 12,
-        Refusal::HasShortage => 13,
-        Refusal::NoOpenShortage => 14,
-        Refusal::AboveLot => 15,
-        Refusal::AboveShortage => 16,
-        Refusal::NoEdition => 17,
-        Refusal::NotFiled => 18,
-        Refusal::NotATable => 19,
-        Refusal::UnfitTable => 20,
-        Refusal::ShortBuffer => 21,
-        Refusal::NotABook => 22,
-    }
 }

@@ -4,119 +4,84 @@ ghost use Rattle.figuring.specs.Tables.{Table};
 ghost use Rattle.figuring.specs.Years.{first_year, last_year};
 ghost use Rattle.figuring.specs.Parts.{part_most};
 ghost use Rattle.book.specs.Sizes.{cells, families};
-ghost use Rattle.book.specs.Below.{count_below, one_if};
+ghost use Rattle.book.specs.Below.{count_below};
 ghost use Rattle.book.specs.Ledger.{part_at, cell_sum};
 ghost use Rattle.book.specs.Soundness.{sound};
 ghost use Rattle.book.specs.Refusals.{first_refusal};
-ghost use Rattle.book.specs.Postings.{netted, earned_by, short_by};
-ghost use Rattle.book.specs.Rules.{posted, close_rows};
+ghost use Rattle.book.specs.Postings.{netted, earned_by, short_by, moved};
+ghost use Rattle.book.specs.Rules.{answered, posted, rows_for};
 ghost use Rattle.book.specs.declared.kinds.Call.{Call};
 
-use crate::answers::{Answer, Posted, Refusal, Verdict};
+use crate::answers::{Answer, Posted, Refusal};
 use crate::head::head_verdict;
 use crate::ledger::{ALL_CLOSED, Book, CELLS, FAMILIES, YEARS};
-use crate::soundness::arrays_sound;
-use figuring::netting::{earned_mg, net_of, shortfall_mg};
+use figuring::netting::net_of;
 use figuring::units::Part;
 use figuring::years::FIRST_YEAR;
 
-pub fn close(book: Book, year: u64) -> Posted
+pub fn close(mut book: Book, year: u64) -> Posted
     ensures { (table : Table) → result ≡ posted table book (Call.Close year) }
 {
-    let mut after = book;
-    let sound = arrays_sound(
-        after.open_year,
-        &after.marks,
-        &after.parts,
-        &after.lots,
-        &after.shortages,
-    );
-    let head = head_verdict(sound);
-    let answer = match head {
-        Verdict::Refuse(why) => Answer::Refused(why),
-        Verdict::Accepted => match close_verdict(after.open_year, year) {
-            Verdict::Refuse(why) => Answer::Refused(why),
-            Verdict::Accepted => {
-                let nets = net_cells(after);
-                let next = after.open_year + 1;
-                let lots = nets.lots;
-                let shortages = nets.shortages;
-                after = Book {
-                    open_year: next,
-                    marks: [0; 32],
-                    parts: [0; 2048],
-                    lots,
-                    shortages,
-                };
-                Answer::Closed(nets.short)
-            }
-        },
-    };
-    Posted {
-        answer,
-        book: after,
-    }
+    let answer = closed(&mut book, year);
+    Posted { answer, book }
 }
 
-fn close_verdict(open_year: u64, year: u64) -> Verdict
-    ensures { result ≡ first_refusal (close_rows open_year year) }
+#[tactic(auto, using(crate::proofs::TableLaws::refused_so))]
+fn closed(book: &mut Book, year: u64) -> Result<Answer, Refusal>
+    ensures { (table : Table) → answered result book.new ≡ posted table book.old (Call.Close year) }
 {
-    if year != open_year {
-        return Verdict::Refuse(Refusal::YearNotOpen);
-    }
-    if open_year == ALL_CLOSED {
-        return Verdict::Refuse(Refusal::YearNotOpen);
-    }
-    Verdict::Accepted
+    close_verdict(book, year)?;
+    let short = net_cells(book);
+    book.open_year += 1;
+    book.marks = [0; 32];
+    book.parts = [0; 2048];
+    Ok(Answer::Closed(short))
 }
 
-// The lots and the shortages with those of the year closed, and how many cells closed short.
-#[derive(Clone, Copy)]
-struct Nets {
-    lots: [u64; 768],
-    shortages: [u64; 768],
-    short: u64,
+#[tactic(auto, unfolding(crate::specs::Rules::rows_for, crate::specs::Rules::head_rows, crate::specs::Rules::own_rows, crate::specs::Rules::close_rows))]
+fn close_verdict(book: &Book, year: u64) -> Result<(), Refusal>
+    ensures { (table : Table) → result ≡ first_refusal (rows_for table book.now (Call.Close year)) }
+{
+    head_verdict(book.is_sound())?;
+    if year != book.open_year {
+        return Err(Refusal::YearNotOpen);
+    }
+    if book.open_year == ALL_CLOSED {
+        return Err(Refusal::YearNotOpen);
+    }
+    Ok(())
 }
 
-fn net_cells(book: Book) -> Nets
-    requires { (sound book ≡ true) × (book.open_year ≤ last_year) }
-    ensures { (result.lots ≡ netted (book.open_year - first_year) (earned_by book) cells book.lots)
-        × ((result.shortages ≡ netted (book.open_year - first_year) (short_by book) cells book.shortages)
-        × (result.short ≡ count_below cells (λ c. ltb 0 (short_by book c)))) }
+// Writes the lots and the shortages of the year closed; how many cells closed short. A cell's number says where its
+// parts stand and where both figures go, so the loop counts it.
+fn net_cells(book: &mut Book) -> u64
+    requires { (sound book.old ≡ true) × (book.old.open_year ≤ last_year) }
+    ensures book { book.new ≡ moved book.old
+        (netted (book.old.open_year - first_year) (earned_by book.old) cells book.old.lots)
+        (netted (book.old.open_year - first_year) (short_by book.old) cells book.old.shortages) }
+    ensures short { result ≡ count_below cells (λ c. ltb 0 (short_by book.old c)) }
 {
     let i = book.open_year - FIRST_YEAR;
-    let mut lots = book.lots;
-    let mut shortages = book.shortages;
     let mut short = 0;
     for cell in 0..CELLS {
         let net = net_of(cell_sum(&book.parts, cell));
-        let lacks = shortfall_mg(net).0;
-        lots[(cell * YEARS + i) as usize] = earned_mg(net).0;
-        shortages[(cell * YEARS + i) as usize] = lacks;
-        short = short + one_if_above(lacks);
+        let lacks = net.shortfall().0;
+        book.lots[(cell * YEARS + i) as usize] = net.earned().0;
+        book.shortages[(cell * YEARS + i) as usize] = lacks;
+        short += u64::from(lacks > 0);
     }
-    Nets {
-        lots,
-        shortages,
-        short,
-    }
+    short
 }
 
-fn one_if_above(mg: u64) -> u64
-    ensures { result ≡ one_if (ltb 0 mg) }
-{
-    if mg > 0 { 1 } else { 0 }
-}
-
-// The sum of a cell's parts.
+// The sum of a cell's parts. In a loop: of what a chain sums no bound is known at each step, and it may not overflow.
 fn cell_sum(parts: &[i64; 2048], cell: u64) -> Part
     requires { (cell < cells) × ((f : ℕ) → f < families → nat_abs (part_at parts.now cell f) ≤ part_most) }
     ensures { result.0 ≡ cell_sum parts.now cell }
 {
+    let first = (cell * FAMILIES) as usize;
     let mut sum: i64 = 0;
-    for family in 0..FAMILIES {
-        let part = parts[(cell * FAMILIES + family) as usize];
-        sum = sum + part;
+    for part in &parts[first..first + FAMILIES as usize] {
+        sum += *part;
     }
     Part(sum)
 }

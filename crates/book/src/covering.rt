@@ -3,17 +3,17 @@
 ghost use Rattle.std.specs.Prelude.{[], ◌∷◌, ◌≡◌, min};
 ghost use Rattle.figuring.specs.Life.{live, open_short};
 ghost use Rattle.book.specs.Accounts.{only};
-ghost use Rattle.book.specs.Ledger.{key, In};
+ghost use Rattle.book.specs.Places.{cell_of};
 ghost use Rattle.book.specs.Refusals.{first_refusal};
 ghost use Rattle.book.specs.Coverage.{turn};
-ghost use Rattle.book.specs.Covering.{cover_rows, paid_oldest};
+ghost use Rattle.book.specs.Covering.{rows_of, paid_oldest};
 ghost use Rattle.book.specs.Paying.{Paid, Payable, all_turns, turns_of};
 
-use crate::answers::{Refusal, Verdict};
+use crate::answers::Refusal;
 use crate::head::head_verdict;
 use crate::kinds::Cover;
 use crate::ledger::{Book, MAKERS, SETS, YEARS, figure_at, lower_figure};
-use crate::soundness::arrays_sound;
+use crate::places::Place;
 use figuring::life::{is_live, is_open};
 use figuring::units::Mg;
 use figuring::years::FIRST_YEAR;
@@ -26,91 +26,77 @@ pub struct Covered {
 }
 
 // A cover by value: paid, or refused with 2, 3 or 4 alone.
-pub fn paid_oldest(book: Book, c: Cover) -> Result<Covered, Refusal>
+pub fn paid_oldest(mut book: Book, c: Cover) -> Result<Covered, Refusal>
     ensures { result ≡ paid_oldest book c }
 {
-    let mut after = book;
-    let sound = arrays_sound(
-        after.open_year,
-        &after.marks,
-        &after.parts,
-        &after.lots,
-        &after.shortages,
-    );
-    if let Verdict::Refuse(why) = head_verdict(sound) {
-        return Err(why);
-    }
-    if let Verdict::Refuse(why) = cover_verdict(c) {
-        return Err(why);
-    }
-    let moved = pay_all(after.open_year, &mut after.lots, &mut after.shortages, c);
+    cover_verdict(&book, c)?;
+    let moved = pay_all(&mut book, c);
     Ok(Covered {
         moved: Mg(moved),
-        book: after,
+        book,
     })
 }
 
-fn cover_verdict(c: Cover) -> Verdict
-    ensures { result ≡ first_refusal (cover_rows c) }
+#[tactic(auto, unfolding(crate::specs::Rules::head_rows, crate::specs::Covering::cover_rows))]
+fn cover_verdict(book: &Book, c: Cover) -> Result<(), Refusal>
+    ensures { result ≡ first_refusal (rows_of book.now c) }
 {
+    head_verdict(book.is_sound())?;
     if c.maker >= MAKERS {
-        return Verdict::Refuse(Refusal::UnknownMaker);
+        return Err(Refusal::UnknownMaker);
     }
     if c.set >= SETS {
-        return Verdict::Refuse(Refusal::UnknownSet);
+        return Err(Refusal::UnknownSet);
     }
-    Verdict::Accepted
+    Ok(())
 }
 
 // Each shortage in turn, the oldest first; the Mg moved.
-fn pay_all(open_year: u64, lots: &mut [u64; 768], shortages: &mut [u64; 768], c: Cover) -> u64
-    requires { Payable open_year lots.old shortages.old c all_turns }
-    ensures { Paid open_year lots.old shortages.old c all_turns lots.new shortages.new result }
+fn pay_all(book: &mut Book, c: Cover) -> u64
+    requires { Payable book.old c all_turns }
+    ensures { Paid book.old c all_turns book.new result }
 {
     let mut moved = 0;
     for i in 0..YEARS {
-        moved = moved + pay_shortage(open_year, lots, shortages, c, FIRST_YEAR + i);
+        let shortage = Place {
+            maker: c.maker,
+            set: c.set,
+            year: FIRST_YEAR + i,
+        };
+        moved += pay_shortage(book, shortage);
     }
     moved
 }
 
 // One shortage, from each lot in turn, the oldest first.
-fn pay_shortage(
-    open_year: u64,
-    lots: &mut [u64; 768],
-    shortages: &mut [u64; 768],
-    c: Cover,
-    year: u64,
-) -> u64
-    requires { Payable open_year lots.old shortages.old c (turns_of year) × In (key c.maker c.set year) }
-    ensures { Paid open_year lots.old shortages.old c (turns_of year) lots.new shortages.new result }
+fn pay_shortage(book: &mut Book, shortage: Place) -> u64
+    requires { Payable book.old (cell_of shortage) (turns_of shortage.year) }
+    ensures { Paid book.old (cell_of shortage) (turns_of shortage.year) book.new result }
 {
     let mut moved = 0;
-    if is_open(open_year, year) {
+    if is_open(book.open_year, shortage.year) {
         for i in 0..YEARS {
-            moved = moved + pay_turn(open_year, lots, shortages, c, FIRST_YEAR + i, year);
+            let lot = Place {
+                maker: shortage.maker,
+                set: shortage.set,
+                year: FIRST_YEAR + i,
+            };
+            moved += pay_turn(book, lot, shortage);
         }
     }
     moved
 }
 
-// One shortage from one lot, as far as the smaller of the two goes.
-fn pay_turn(
-    open_year: u64,
-    lots: &mut [u64; 768],
-    shortages: &mut [u64; 768],
-    c: Cover,
-    vintage: u64,
-    year: u64,
-) -> u64
-    requires { In (key c.maker c.set vintage) × In (key c.maker c.set year) }
-    ensures { Paid open_year lots.old shortages.old c (turn year vintage ∷ []) lots.new shortages.new result }
+// One shortage from one lot of its cell, as far as the smaller of the two goes.
+fn pay_turn(book: &mut Book, lot: Place, shortage: Place) -> u64
+    requires { cell_of lot ≡ cell_of shortage }
+    ensures { Paid book.old (cell_of shortage) (turn shortage.year lot.year ∷ []) book.new result }
 {
-    let lot = figure_at(lots, c.maker, c.set, vintage);
-    let shortage = figure_at(shortages, c.maker, c.set, year);
-    let mg = turn_amount(open_year, lot, vintage, shortage, year);
-    lower_figure(lots, c.maker, c.set, vintage, mg);
-    lower_figure(shortages, c.maker, c.set, year, mg);
+    let has = figure_at(&book.lots, lot);
+    let lacks = figure_at(&book.shortages, shortage);
+    let mg = turn_amount(book.open_year, has, lot.year, lacks, shortage.year);
+    lower_figure(&mut book.lots, lot, mg);
+    lower_figure(&mut book.shortages, shortage, mg);
     mg
 }
 
@@ -125,5 +111,5 @@ fn turn_amount(open_year: u64, lot: u64, vintage: u64, shortage: u64, year: u64)
     if !is_open(open_year, year) {
         return 0;
     }
-    if lot < shortage { lot } else { shortage }
+    lot.min(shortage)
 }

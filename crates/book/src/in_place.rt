@@ -1,13 +1,14 @@
 // "The terminal owns one book and posts to it in place": thin functions that take the book by reference, call the
 // proved by-value step and store the result back; `post_in` passes the book on to the call's own. A refusal leaves
-// the book exactly as it was. Filings alone read the table of standards, so the other calls take none, and their
-// contracts hold for every table.
+// the book exactly as it was, so of one nothing is stored. Filings alone read the table of standards, so the other
+// calls take none, and their contracts hold for every table.
+// The five stay apart, as document 01 names them: a generic one would be handed a table that four of them do not take.
 ghost use Rattle.std.specs.Prelude.{◌≡◌};
 ghost use Rattle.figuring.specs.Tables.{Table};
 ghost use Rattle.book.specs.Rules.{posted};
 ghost use Rattle.book.specs.declared.kinds.Call.{Call};
 
-use crate::answers::Answer;
+use crate::answers::{Answer, Refusal};
 use crate::applying::apply;
 use crate::closing::close;
 use crate::filing::file;
@@ -18,57 +19,67 @@ use crate::trading::trade;
 use figuring::tables::Table;
 
 // A filing, or an amendment where it amends.
-pub fn file_in(book: &mut Book, table: Table, f: Filing) -> Answer
+pub fn file_in(book: &mut Book, table: Table, f: Filing) -> Result<Answer, Refusal>
     ensures { (result ≡ (posted table book.old (Call.File f)).answer)
         × (book.new ≡ (posted table book.old (Call.File f)).book) }
 {
     let done = file(*book, table, f);
-    *book = done.book;
+    if done.answer.is_ok() {
+        *book = done.book;
+    }
     done.answer
 }
 
-pub fn close_in(book: &mut Book, year: u64) -> Answer
+pub fn close_in(book: &mut Book, year: u64) -> Result<Answer, Refusal>
     ensures { (table : Table)
         → (result ≡ (posted table book.old (Call.Close year)).answer)
         × (book.new ≡ (posted table book.old (Call.Close year)).book) }
 {
     let done = close(*book, year);
-    *book = done.book;
+    if done.answer.is_ok() {
+        *book = done.book;
+    }
     done.answer
 }
 
-pub fn trade_in(book: &mut Book, t: Trade) -> Answer
+pub fn trade_in(book: &mut Book, t: Trade) -> Result<Answer, Refusal>
     ensures { (table : Table)
         → (result ≡ (posted table book.old (Call.Trade t)).answer)
         × (book.new ≡ (posted table book.old (Call.Trade t)).book) }
 {
     let done = trade(*book, t);
-    *book = done.book;
+    if done.answer.is_ok() {
+        *book = done.book;
+    }
     done.answer
 }
 
-pub fn apply_in(book: &mut Book, p: Application) -> Answer
+pub fn apply_in(book: &mut Book, p: Application) -> Result<Answer, Refusal>
     ensures { (table : Table)
         → (result ≡ (posted table book.old (Call.Apply p)).answer)
         × (book.new ≡ (posted table book.old (Call.Apply p)).book) }
 {
     let done = apply(*book, p);
-    *book = done.book;
+    if done.answer.is_ok() {
+        *book = done.book;
+    }
     done.answer
 }
 
-pub fn retire_in(book: &mut Book, p: Retirement) -> Answer
+pub fn retire_in(book: &mut Book, p: Retirement) -> Result<Answer, Refusal>
     ensures { (table : Table)
         → (result ≡ (posted table book.old (Call.Retire p)).answer)
         × (book.new ≡ (posted table book.old (Call.Retire p)).book) }
 {
     let done = retire(*book, p);
-    *book = done.book;
+    if done.answer.is_ok() {
+        *book = done.book;
+    }
     done.answer
 }
 
 // Any call, posted in place.
-pub fn post_in(book: &mut Book, table: Table, call: Call) -> Answer
+pub fn post_in(book: &mut Book, table: Table, call: Call) -> Result<Answer, Refusal>
     ensures { (result ≡ (posted table book.old call).answer)
         × (book.new ≡ (posted table book.old call).book) }
 {

@@ -1,5 +1,6 @@
 // The calls of document 01, with the arguments other than the book.
 // A filing; or, where it amends, an amendment, which has the same fields (card 6).
+// `amends` stays a test of one struct: card 6 gives an amendment a filing's fields, and one row alone tells them apart.
 #[derive(Clone, Copy)]
 pub struct Filing {
     pub amends: bool,

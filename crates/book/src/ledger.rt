@@ -1,11 +1,13 @@
-// The book of document 01, as a struct by value. Its arrays hold plain numbers: parts in part units, lots and
-// shortages in Mg. Part and Mg are the types of every call's results. A copy of it is 29 KB. So a step makes one
-// copy, works on that and has one exit, and its verdict is lent the arrays.
-ghost use Rattle.std.specs.Prelude.{◌≡◌, ◌+◌, ◌-◌, ◌*◌, ◌^◌, ◌<◌, ◌≤◌};
-ghost use Rattle.book.specs.Sizes.{makers, sets, families, places};
-ghost use Rattle.book.specs.Ledger.{key, In, place, figure_at, lower, raise, has_shortage, marked, with_mark};
+// The book of document 01, as a struct by value, in that paper's form: flat arrays of plain numbers, parts in part units,
+// lots and shortages in Mg. Part and Mg are the types of every call's results. A copy of it is 29 KB. So a step works on
+// the book that it was given by value, and all below it is lent that book.
+ghost use Rattle.std.specs.Prelude.{◌≡◌, ◌+◌, ◌-◌, ◌^◌, ◌<◌, ◌≤◌, nat_lt};
+ghost use Rattle.std.specs.List.{list_any};
+ghost use Rattle.book.specs.Ledger.{figure_at, lower, raise, has_shortage, marked};
+ghost use Rattle.book.specs.Places.{key_of};
 ghost use Rattle.book.specs.Postings.{fresh_book};
 
+use crate::places::Place;
 use figuring::years::FIRST_YEAR;
 
 pub const MAKERS: u64 = 8;
@@ -32,87 +34,70 @@ pub struct Book {
     pub shortages: [u64; 768],
 }
 
-pub fn fresh() -> Book
-    ensures { result ≡ fresh_book }
-{
-    Book {
-        open_year: FIRST_YEAR,
-        marks: [0; 32],
-        parts: [0; 2048],
-        lots: [0; 768],
-        shortages: [0; 768],
+impl Book {
+    // A book with nothing in it, open in the first year.
+    #[tactic(auto, unfolding(crate::specs::Postings::fresh_book))]
+    pub fn fresh() -> Book
+        ensures { result ≡ fresh_book }
+    {
+        Book {
+            open_year: FIRST_YEAR,
+            marks: [0; 32],
+            parts: [0; 2048],
+            lots: [0; 768],
+            shortages: [0; 768],
+        }
     }
 }
 
-// Where the lot and the shortage of a maker, a set and a year stand.
-pub(crate) fn place_of(maker: u64, set: u64, year: u64) -> u64
-    requires { In (key maker set year) }
-    ensures { (result ≡ place (key maker set year)) × (result < places) }
+// The figure of a place.
+#[tactic(auto, unfolding(crate::specs::Ledger::figure_at))]
+pub(crate) fn figure_at(figures: &[u64; 768], at: Place) -> u64
+    ensures { result ≡ figure_at figures.now (key_of at) }
 {
-    (maker * SETS + set) * YEARS + (year - FIRST_YEAR)
-}
-
-// The figure of a maker, a set and a year.
-pub(crate) fn figure_at(figures: &[u64; 768], maker: u64, set: u64, year: u64) -> u64
-    requires { In (key maker set year) }
-    ensures { result ≡ figure_at figures.now (key maker set year) }
-{
-    figures[place_of(maker, set, year) as usize]
+    figures[at.index()]
 }
 
 // A figure lowered by some Mg; what is left of it.
-pub(crate) fn lower_figure(
-    figures: &mut [u64; 768],
-    maker: u64,
-    set: u64,
-    year: u64,
-    mg: u64,
-) -> u64
-    requires { In (key maker set year) × (mg ≤ figure_at figures.old (key maker set year)) }
-    ensures { (result ≡ figure_at figures.old (key maker set year) - mg)
-        × (figures.new ≡ lower figures.old (key maker set year) mg) }
+#[tactic(auto, unfolding(crate::specs::Ledger::figure_at, crate::specs::Ledger::lower))]
+pub(crate) fn lower_figure(figures: &mut [u64; 768], at: Place, mg: u64) -> u64
+    requires { mg ≤ figure_at figures.old (key_of at) }
+    ensures left { result ≡ figure_at figures.old (key_of at) - mg }
+    ensures figures { figures.new ≡ lower figures.old (key_of at) mg }
 {
-    let place = place_of(maker, set, year) as usize;
-    let left = figures[place] - mg;
-    figures[place] = left;
+    let left = figures[at.index()] - mg;
+    figures[at.index()] = left;
     left
 }
 
 // A figure raised by some Mg.
-pub(crate) fn raise_figure(figures: &mut [u64; 768], maker: u64, set: u64, year: u64, mg: u64)
-    requires { In (key maker set year) × (figure_at figures.old (key maker set year) + mg < 2 ^ 64) }
-    ensures { figures.new ≡ raise figures.old (key maker set year) mg }
+#[tactic(auto, unfolding(crate::specs::Ledger::figure_at, crate::specs::Ledger::raise))]
+pub(crate) fn raise_figure(figures: &mut [u64; 768], at: Place, mg: u64)
+    requires { figure_at figures.old (key_of at) + mg < 2 ^ 64 }
+    ensures { figures.new ≡ raise figures.old (key_of at) mg }
 {
-    let place = place_of(maker, set, year) as usize;
-    let more = figures[place] + mg;
-    figures[place] = more;
+    figures[at.index()] += mg;
 }
 
-// Whether a cell has a shortage above 0 in any year.
-pub(crate) fn has_shortage(shortages: &[u64; 768], maker: u64, set: u64) -> bool
-    requires { (maker < makers) × (set < sets) }
-    ensures { result ≡ has_shortage shortages.now maker set }
+// Whether a place's cell has a shortage above 0 in any year.
+#[tactic(auto, unfolding(crate::specs::Ledger::has_shortage))]
+pub(crate) fn has_shortage(shortages: &[u64; 768], at: Place) -> bool
+    ensures { result ≡ has_shortage shortages.now at.maker at.set }
 {
-    for i in 0..YEARS {
-        if shortages[((maker * SETS + set) * YEARS + i) as usize] > 0 {
-            return true;
-        }
-    }
-    false
+    let first = at.cell() * YEARS as usize;
+    any_above_0(&shortages[first..first + YEARS as usize])
 }
 
-// Whether the family's bit of a mark is one.
-pub(crate) fn is_marked(mark: u64, family: u64) -> bool
-    requires { family < families }
-    ensures { result ≡ marked mark family }
+fn any_above_0(figures: &[u64]) -> bool
+    ensures { result ≡ list_any (λ mg. nat_lt 0 mg) figures.now }
 {
-    (mark >> family) % 2 == 1
+    figures.iter().any(|mg| *mg > 0)
 }
 
-// The mark with the family's bit set.
-pub(crate) fn with_bit(mark: u64, family: u64) -> u64
-    requires { family < families }
-    ensures { result ≡ with_mark mark family }
+// Whether a family's bit of a mark is one. A mark has 64 bits.
+#[tactic(auto, using(crate::proofs::MarkLaws::none_above), unfolding(crate::specs::Ledger::marked))]
+pub fn is_marked(mark: u64, number: u64) -> bool
+    ensures { result ≡ marked mark number }
 {
-    mark | (1 << family)
+    number < FAMILIES && (mark >> number) % 2 == 1
 }

@@ -12,6 +12,7 @@ pub mod in_place;
 pub mod kinds;
 pub mod ledger;
 pub mod listing;
+pub mod places;
 pub mod posting;
 pub mod retiring;
 pub mod soundness;

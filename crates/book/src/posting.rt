@@ -8,10 +8,9 @@ use crate::kinds::Call;
 use crate::ledger::Book;
 use figuring::tables::Table;
 
-pub fn post(book: Book, table: Table, call: Call) -> Posted
+pub fn post(mut book: Book, table: Table, call: Call) -> Posted
     ensures { result ≡ posted table book call }
 {
-    let mut own = book;
-    let answer = post_in(&mut own, table, call);
-    Posted { answer, book: own }
+    let answer = post_in(&mut book, table, call);
+    Posted { answer, book }
 }

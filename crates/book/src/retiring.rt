@@ -1,78 +1,66 @@
 // Retire: lowers a lot.
-ghost use Rattle.std.specs.Prelude.{◌≡◌, ◌≤◌};
+ghost use Rattle.std.specs.Prelude.{◌≡◌};
 ghost use Rattle.figuring.specs.Tables.{Table};
-ghost use Rattle.book.specs.Sizes.{all_closed};
 ghost use Rattle.book.specs.Refusals.{first_refusal};
-ghost use Rattle.book.specs.Rules.{posted, retire_rows};
+ghost use Rattle.book.specs.Rules.{answered, posted, rows_for};
 ghost use Rattle.book.specs.declared.kinds.Call.{Call};
 
-use crate::answers::{Answer, Posted, Refusal, Verdict};
+use crate::answers::{Answer, Posted, Refusal};
 use crate::head::head_verdict;
 use crate::kinds::Retirement;
 use crate::ledger::{Book, MAKERS, SETS, figure_at, has_shortage, lower_figure};
-use crate::soundness::arrays_sound;
+use crate::places::Place;
 use figuring::life::is_live;
 use figuring::units::Mg;
 
-pub fn retire(book: Book, p: Retirement) -> Posted
+pub fn retire(mut book: Book, p: Retirement) -> Posted
     ensures { (table : Table) → result ≡ posted table book (Call.Retire p) }
 {
-    let mut after = book;
-    let sound = arrays_sound(
-        after.open_year,
-        &after.marks,
-        &after.parts,
-        &after.lots,
-        &after.shortages,
-    );
-    let head = head_verdict(sound);
-    let answer = match head {
-        Verdict::Refuse(why) => Answer::Refused(why),
-        Verdict::Accepted => match retire_verdict(
-            after.open_year,
-            &after.lots,
-            &after.shortages,
-            p,
-        ) {
-            Verdict::Refuse(why) => Answer::Refused(why),
-            Verdict::Accepted => {
-                let left = lower_figure(&mut after.lots, p.maker, p.set, p.vintage, p.mg);
-                Answer::Left(Mg(left))
-            }
-        },
-    };
-    Posted {
-        answer,
-        book: after,
-    }
+    let answer = retired(&mut book, p);
+    Posted { answer, book }
 }
 
-fn retire_verdict<'a>(
-    open_year: u64,
-    lots: &'a [u64; 768],
-    shortages: &'a [u64; 768],
-    p: Retirement,
-) -> Verdict
-    requires { open_year ≤ all_closed }
-    ensures { result ≡ first_refusal (retire_rows open_year lots.now shortages.now p) }
+#[tactic(auto, using(crate::proofs::TableLaws::refused_so, crate::proofs::MoveFacts::retirement_facts))]
+fn retired(book: &mut Book, p: Retirement) -> Result<Answer, Refusal>
+    ensures { (table : Table) → answered result book.new ≡ posted table book.old (Call.Retire p) }
 {
+    retire_verdict(book, p)?;
+    let lot = Place {
+        maker: p.maker,
+        set: p.set,
+        year: p.vintage,
+    };
+    let left = lower_figure(&mut book.lots, lot, p.mg);
+    Ok(Answer::Left(Mg(left)))
+}
+
+#[tactic(auto, unfolding(crate::specs::Rules::rows_for, crate::specs::Rules::head_rows, crate::specs::Rules::own_rows, crate::specs::Rules::retire_rows))]
+fn retire_verdict(book: &Book, p: Retirement) -> Result<(), Refusal>
+    ensures { (table : Table) → result ≡ first_refusal (rows_for table book.now (Call.Retire p)) }
+{
+    head_verdict(book.is_sound())?;
     if p.maker >= MAKERS {
-        return Verdict::Refuse(Refusal::UnknownMaker);
+        return Err(Refusal::UnknownMaker);
     }
     if p.set >= SETS {
-        return Verdict::Refuse(Refusal::UnknownSet);
+        return Err(Refusal::UnknownSet);
     }
-    if !is_live(open_year, p.vintage) {
-        return Verdict::Refuse(Refusal::VintageNotLive);
+    if !is_live(book.open_year, p.vintage) {
+        return Err(Refusal::VintageNotLive);
     }
     if p.mg == 0 {
-        return Verdict::Refuse(Refusal::ZeroAmount);
+        return Err(Refusal::ZeroAmount);
     }
-    if has_shortage(shortages, p.maker, p.set) {
-        return Verdict::Refuse(Refusal::HasShortage);
+    let lot = Place {
+        maker: p.maker,
+        set: p.set,
+        year: p.vintage,
+    };
+    if has_shortage(&book.shortages, lot) {
+        return Err(Refusal::HasShortage);
     }
-    if p.mg > figure_at(lots, p.maker, p.set, p.vintage) {
-        return Verdict::Refuse(Refusal::AboveLot);
+    if p.mg > figure_at(&book.lots, lot) {
+        return Err(Refusal::AboveLot);
     }
-    Verdict::Accepted
+    Ok(())
 }

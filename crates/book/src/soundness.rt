@@ -1,7 +1,5 @@
 // Soundness, decided for any book whatever.
-ghost use Rattle.std.specs.Prelude.{◌≡◌, ◌<◌};
-ghost use Rattle.book.specs.Sizes.{families};
-ghost use Rattle.book.specs.Ledger.{book_of};
+ghost use Rattle.std.specs.Prelude.{◌≡◌};
 ghost use Rattle.book.specs.Soundness.{sound, cells_sound, totals_sound, part_sound, figures_sound, year_in_range};
 ghost use Rattle.book.specs.declared.ledger.Book.{Book};
 
@@ -15,74 +13,43 @@ const SHORTAGE_MOST: u64 = NET_MOST;
 
 const LOTS_MOST: u64 = 200_000_000_000;
 
-pub fn is_sound(book: Book) -> bool
-    ensures { result ≡ sound book }
-{
-    arrays_sound(
-        book.open_year,
-        &book.marks,
-        &book.parts,
-        &book.lots,
-        &book.shortages,
-    )
+impl Book {
+    #[tactic(auto, unfolding(crate::specs::Soundness::sound))]
+    pub fn is_sound(&self) -> bool
+        ensures { result ≡ sound self.now }
+    {
+        year_in_range(self.open_year) && cells_sound(self) && totals_sound(&self.lots)
+    }
 }
 
-// Soundness of a book whose arrays are lent: a posting asks it of the book that it works on, with no copy.
-pub(crate) fn arrays_sound<'a>(
-    open_year: u64,
-    marks: &'a [u64; 32],
-    parts: &'a [i64; 2048],
-    lots: &'a [u64; 768],
-    shortages: &'a [u64; 768],
-) -> bool
-    ensures { result ≡ sound
-        (book_of open_year marks.now parts.now lots.now shortages.now) }
-{
-    if !year_in_range(open_year) {
-        return false;
-    }
-    if !cells_sound(open_year, marks, parts, lots, shortages) {
-        return false;
-    }
-    totals_sound(lots)
-}
-
+#[tactic(auto, unfolding(crate::specs::Soundness::year_in_range))]
 fn year_in_range(open_year: u64) -> bool
     ensures { result ≡ year_in_range open_year }
 {
-    if open_year < FIRST_YEAR {
-        return false;
-    }
-    open_year <= ALL_CLOSED
+    FIRST_YEAR <= open_year && open_year <= ALL_CLOSED
 }
 
-// The walk over makers, sets and years: it ends at the first fault.
-fn cells_sound<'a>(
-    open_year: u64,
-    marks: &'a [u64; 32],
-    parts: &'a [i64; 2048],
-    lots: &'a [u64; 768],
-    shortages: &'a [u64; 768],
-) -> bool
-    ensures { result ≡ cells_sound
-        (book_of open_year marks.now parts.now lots.now shortages.now) }
+// The walk over makers, sets and years, in document 01's form: nested loops that end by their label at the first fault.
+#[tactic(auto, unfolding(figuring::specs::Below::all_below))]
+fn cells_sound(book: &Book) -> bool
+    ensures { result ≡ cells_sound book.now }
 {
     let mut good = true;
     'walk: for maker in 0..MAKERS {
         for set in 0..SETS {
             let cell = maker * SETS + set;
-            let mark = marks[cell as usize];
+            let mark = book.marks[cell as usize];
             for family in 0..FAMILIES {
-                let part = parts[(cell * FAMILIES + family) as usize];
+                let part = book.parts[(cell * FAMILIES + family) as usize];
                 if !part_sound(mark, family, part) {
                     good = false;
                     break 'walk;
                 }
             }
             for i in 0..YEARS {
-                let lot = lots[(cell * YEARS + i) as usize];
-                let shortage = shortages[(cell * YEARS + i) as usize];
-                if !figures_sound(open_year, FIRST_YEAR + i, lot, shortage) {
+                let lot = book.lots[(cell * YEARS + i) as usize];
+                let shortage = book.shortages[(cell * YEARS + i) as usize];
+                if !figures_sound(book.open_year, FIRST_YEAR + i, lot, shortage) {
                     good = false;
                     break 'walk;
                 }
@@ -93,38 +60,23 @@ fn cells_sound<'a>(
 }
 
 // A family's part: within its bound, and zero where its mark is not set.
+#[tactic(auto, unfolding(crate::specs::Soundness::part_sound))]
 fn part_sound(mark: u64, family: u64, part: i64) -> bool
-    requires { family < families }
     ensures { result ≡ part_sound mark family part }
 {
-    if part == 0 {
-        return true;
-    }
-    if part > PART_MOST {
-        return false;
-    }
-    if part < -PART_MOST {
-        return false;
-    }
-    is_marked(mark, family)
+    part == 0 || part.unsigned_abs() <= PART_MOST.unsigned_abs() && is_marked(mark, family)
 }
 
 // A cell's lot and shortage of a year.
+#[tactic(auto, unfolding(crate::specs::Soundness::figures_sound))]
 fn figures_sound(open_year: u64, year: u64, lot: u64, shortage: u64) -> bool
     ensures { result ≡ figures_sound open_year year lot shortage }
 {
-    if shortage > SHORTAGE_MOST {
-        return false;
-    }
-    if year < open_year {
-        return true;
-    }
-    if lot != 0 {
-        return false;
-    }
-    shortage == 0
+    shortage <= SHORTAGE_MOST && (year < open_year || lot == 0 && shortage == 0)
 }
 
+// The same form, over sets, years and makers.
+#[tactic(auto, unfolding(figuring::specs::Below::all_below, crate::specs::Below::sum_below))]
 fn totals_sound(lots: &[u64; 768]) -> bool
     ensures { result ≡ totals_sound lots.now }
 {
@@ -138,7 +90,7 @@ fn totals_sound(lots: &[u64; 768]) -> bool
                     good = false;
                     break 'walk;
                 }
-                sum = sum + lot;
+                sum += lot;
             }
         }
     }

@@ -10,49 +10,38 @@ mod records;
 mod texts;
 mod words;
 
-ghost use Rattle.std.specs.Prelude.{◌≡◌, length};
-ghost use Rattle.book_probe.specs.Sizes.{answer_bytes, record_bytes, text_bytes};
-
-use records::{Asked, RECORD, answer_call, asked_of};
+use records::{Asked, RECORD, Record, answer_call, asked_of};
 use streams::reading::read_full;
+use text::reading::TEXT_ROOM;
 use texts::text_turn;
 
-// Reads one record and writes its answer; false at the input's end, at a kind that is not known or too many bytes, or if a
-// write fails.
-fn turn(rt: HostRuntime, input: &mut [u8], bytes: &mut [u8], out: &mut [u8]) -> bool
-    requires { (record_bytes ≡ length input.old)
-        × ((text_bytes ≡ length bytes.old) × (answer_bytes ≡ length out.old)) }
-{
-    let mut from = rt.stdin();
-    let got = read_full(&mut from, input);
-    if got < RECORD {
-        return false;
+// Reads one record and writes its answer; nothing at the input's end, at a kind that is not known or too many bytes, or if
+// a write fails.
+fn turn(rt: HostRuntime, input: &mut Record, bytes: &mut [u8; TEXT_ROOM]) -> Option<()> {
+    let input_bytes = input.as_flattened_mut();
+    if read_full(&mut rt.stdin(), input_bytes) < input_bytes.len() {
+        return None;
     }
-    let asked = asked_of(input);
+    let Some(asked) = asked_of(input) else {
+        let _ = eprintln!(rt; "book_probe: not a kind of call");
+        return None;
+    };
     match asked {
         Asked::Post(call) => {
-            answer_call(input, call, out);
-            rt.write_all(out).is_ok()
+            let out = answer_call(input, call);
+            rt.write_all(out.as_flattened()).ok()
         }
-        Asked::Text(count) => text_turn(rt, input, count, bytes, out),
-        Asked::Unknown => {
-            let _ = eprintln!(rt; "book_probe: not a kind of call");
-            false
-        }
+        Asked::Text(count) => text_turn(rt, input, count, bytes),
     }
 }
 
 fn main(rt: HostRuntime) {
-    let mut input = [0u8; 30176];
-    let mut bytes = [0u8; 229441];
-    let mut out = [0u8; 28968];
-    let mut turns = u64::MAX;
-    while turns > 0 {
-        let more = turn(rt, &mut input, &mut bytes, &mut out);
-        if more {
-            turns -= 1;
-        } else {
-            turns = 0;
+    let mut input = [[0u8; 8]; RECORD];
+    let mut bytes = [0u8; TEXT_ROOM];
+    // a proved loop has to end: this one counts up to a number that no input reaches
+    for _ in 0..u64::MAX {
+        if turn(rt, &mut input, &mut bytes).is_none() {
+            return;
         }
     }
 }

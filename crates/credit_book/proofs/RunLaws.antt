@@ -1,15 +1,18 @@
 -- A run says the terminal's answer to its input, whatever the chunks that it was read in.
 use Prim.Native.Nat.{ℕ}
-use mathlib.Core.Bool.{Bool}
 use mathlib.Core.Path.{◌≡◌, refl, sym, ap, ◌∙◌}
 use mathlib.Core.List.{List, [], ◌∷◌, ◌++◌, append_assoc}
 use Rattle.figuring.specs.Tables.{Table}
 use Rattle.book.specs.declared.ledger.Book.{Book}
+use Rattle.std.specs.Prelude.{None, Some}
 use Rattle.text.specs.Desk.{Terminal, takes_all, ends}
 use Rattle.text.specs.Listing.{listing}
 use Rattle.text.specs.Program.{opened, written, joined, terminal, in_chunks}
 use Rattle.text.proofs.SessionLaws.{any_chunks}
-use Rattle.credit_book.specs.Turns.{Reading, said_to}
+use Rattle.credit_book.specs.declared.progress.Progress.{Progress}
+use Rattle.credit_book.specs.declared.Input.{Input}
+use Rattle.credit_book.specs.declared.Closed.{Closed}
+use Rattle.credit_book.specs.Turns.{ClosedBy, RanBy, ReadBy, Reading, said_to}
 
 -- the terminal that took the chunks, each said and handed over
 after : Table → Terminal → List (List ℕ) → Terminal
@@ -25,12 +28,12 @@ module _ (t : Table) where
   after_more x (d ∷ cs) c = after_more (written (takes_all t x d)) cs c
 
   taken :
-      (b : Book) (chunks : List (List ℕ)) (x : Terminal) (more fine : Bool) → Reading t b chunks x more fine
+      (b : Book) (chunks : List (List ℕ)) (x : Terminal) (p : Progress) → Reading t b chunks x p
       → x ≡ after t (opened b) chunks
   unfolding after
-  taken b _ _ _ _ Reading.begun = refl
-  taken b _ _ _ _ (Reading.turn {chunks} {x} {before} chunk got interrupted wrote g e h) =
-      rw (after_more (opened b) chunks chunk, taken b chunks x _ before g)
+  taken b _ _ _ Reading.begun = refl
+  taken b _ _ _ (Reading.turn {chunks} {x} chunk read wrote g e w h) =
+      rw (after_more (opened b) chunks chunk, taken b chunks x _ g)
 
   in_turns :
       (x : Terminal) (cs : List (List ℕ)) → in_chunks t x cs ≡ said_to t x cs
@@ -41,8 +44,21 @@ module _ (t : Table) where
       ap (λ (l : List ℕ). (takes_all t x c).said ++ l) (in_turns (written (takes_all t x c)) cs)
       ∙ sym (append_assoc (takes_all t x c).said (said_to t (written (takes_all t x c)) cs) _)
 
-  pub whole_run :
-      (b : Book) (chunks : List (List ℕ)) (x : Terminal) (more fine : Bool) → Reading t b chunks x more fine
+  whole_run :
+      (b : Book) (chunks : List (List ℕ)) (x : Terminal) (p : Progress) → Reading t b chunks x p
       → said_to t (opened b) chunks ++ ((ends t x).said ++ listing (ends t x).book) ≡ terminal t b (joined chunks)
-  whole_run b chunks x more fine g =
-      rw (taken b chunks x more fine g) (sym (in_turns (opened b) chunks) ∙ any_chunks t b chunks)
+  whole_run b chunks x p g =
+      rw (taken b chunks x p g) (sym (in_turns (opened b) chunks) ∙ any_chunks t b chunks)
+
+  pub ran_to_end :
+      (b : Book) (x : Terminal) (r : Input) (c : Closed)
+      → ReadBy t b x r → r.progress ≡ Progress.Ended → ClosedBy t x c
+      → RanBy t b (record { input = r; closed = Some c })
+  ran_to_end b x r c g e h =
+      record { x = x; read = g; closes = λ _. h; unclosed = λ n. absurd (n e); whole = whole_run b _ _ _ g.reading }
+
+  pub ran_short :
+      (b : Book) (x : Terminal) (r : Input) → ReadBy t b x r → (r.progress ≡ Progress.Ended → ⊥)
+      → RanBy t b (record { input = r; closed = None })
+  ran_short b x r g n =
+      record { x = x; read = g; closes = λ e. absurd (n e); unclosed = λ _. refl; whole = whole_run b _ _ _ g.reading }

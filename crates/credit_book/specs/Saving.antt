@@ -1,5 +1,5 @@
 -- Card 8: the book of a run, written out at its end to the file named after `--write`.
-use Rattle.std.specs.Prelude.{ℕ, true, false, cond, ◌≡◌, List, [], length, take}
+use Rattle.std.specs.Prelude.{ℕ, Bool, true, false, cond, ◌≡◌, List, [], length, take, Option, None, Some}
 use Rattle.book.specs.Soundness.{sound}
 use Rattle.book.specs.declared.ledger.Book.{Book}
 use Rattle.text.specs.BookText.{book_text}
@@ -11,14 +11,25 @@ use Rattle.credit_book.specs.declared.Closed.{Closed}
 abbrev pub saved_text : Book → List ℕ
 saved_text b = cond (sound b) (book_text b) []
 
--- a book's text, handed over from the buffer that is out' after it
-pub record SavesBook (b : Book) (r : Wrote) (out' : List ℕ) : Type 0 where
-  pub handed_is : r.handed ≡ length (saved_text b)
-  pub bytes_are : take r.handed out' ≡ saved_text b
+-- how many bytes were handed over, none where nothing was written
+abbrev pub handed : Option Wrote → ℕ
+handed None = 0
+handed (Some w) = w.handed
 
--- the end of a run: name is 0 where no file is named
-pub record SavedBy (name : ℕ) (closed : Closed) (r : Wrote) : Type 0 where
-  pub unnamed : name ≡ 0 → r.handed ≡ 0
-  -- nothing is put in a file's place once something failed: all that was said, the listing last, was written before
-  pub after_failure : closed.listed.fine ≡ false → r.handed ≡ 0
-  pub saves : (name ≡ 0 → ⊥) → closed.listed.fine ≡ true → r.handed ≡ length (saved_text closed.book)
+-- a book's text, handed over from the buffer that is out' after it
+pub record SavesBook (b : Book) (r : Option Wrote) (out' : List ℕ) : Type 0 where
+  pub handed_is : handed r ≡ length (saved_text b)
+  pub bytes_are : take (handed r) out' ≡ saved_text b
+
+-- whether a writing was there and was fine
+abbrev pub is_fine : Option Wrote → Bool
+is_fine None = false
+is_fine (Some w) = w.fine
+
+-- the end of a run, in which nothing was written if it did not come to the end of the input. Nothing is put in a file's
+-- place where none is named, or once something failed: all that was said, the listing last, was written before
+abbrev pub SavedBy : Option ℕ → Option Closed → Option Wrote → Type 0
+SavedBy None closed r = r ≡ None
+SavedBy (Some place) None r = r ≡ None
+SavedBy (Some place) (Some c) r =
+    (is_fine c.listed ≡ false → r ≡ None) × (is_fine c.listed ≡ true → handed r ≡ length (saved_text c.book))

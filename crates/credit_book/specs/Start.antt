@@ -1,48 +1,34 @@
 -- What comes before a run, by the arguments and by what became of the two files: its table of standards, and the book that
 -- it begins with; or a refusal; or a failure, which was told.
-use Rattle.std.specs.Prelude.{ℕ, zero, suc, true, false, ◌⊎◌, ◌≡◌}
-use Rattle.figuring.specs.Tables.{Table}
-use Rattle.book.specs.Postings.{fresh_book}
-use Rattle.book.specs.declared.ledger.Book.{Book}
+use Rattle.std.specs.Prelude.{Option, None, Some, Result, Ok, Err, ◌≡◌, unwrap_or}
+use Rattle.figuring.specs.Tables.{Table, built_in}
 use Rattle.book.specs.declared.answers.Refusal.{Refusal}
-use Rattle.text.specs.Loads.{accepted, refused}
 use Rattle.credit_book.specs.declared.arguments.Asked.{Asked}
-use Rattle.credit_book.specs.declared.std_file.TableFile.{TableFile}
-use Rattle.credit_book.specs.declared.book_file.BookFile.{BookFile}
+use Rattle.credit_book.specs.declared.files.Unusable.{Unusable}
 use Rattle.credit_book.specs.declared.start.Start.{Start}
-use Rattle.credit_book.specs.declared.start.Prepared.{Prepared}
-use Rattle.credit_book.specs.StdFile.{TextComesTo}
-use Rattle.credit_book.specs.BookFile.{BookComesTo}
+use Rattle.credit_book.specs.declared.start.Halt.{Halt}
+use Rattle.credit_book.specs.StdFile.{StdFileBy}
+use Rattle.credit_book.specs.BookFile.{FirstBookBy}
 
--- the table t' of a run that was lent t: card 7, "(built-in table where it is absent)"
-abbrev pub TableIs : Table → TableFile → Table → Type 0
-TableIs t TableFile.Absent t' = t' ≡ t
-TableIs t TableFile.Loaded t' = TextComesTo (accepted t')
-TableIs t (TableFile.Refused n) t' = ⊥
-TableIs t TableFile.Unreadable t' = ⊥
+-- the table of a run, by that of std.txt: card 7, "(built-in table where it is absent)"
+abbrev pub table_or_built_in : Option Table → Table
+table_or_built_in found = unwrap_or found built_in
 
--- the book of a run: a fresh one where no file is named, else the one whose text the file has
-abbrev pub BookIs : ℕ → BookFile → Book → Type 0
-BookIs zero f b = (f ≡ BookFile.Unnamed) × (b ≡ fresh_book)
-BookIs (suc place) f b = (f ≡ BookFile.Loaded) × BookComesTo (accepted b)
+-- without known arguments there is no run. A run has what is asked for, what became of std.txt, and the book of the file
+-- that is asked for. Else std.txt gives no table; or, with what became of std.txt at hand, that file gives no book
+abbrev pub PreparedBy : Option Asked → Result Start Halt → Type 0
+PreparedBy None result = result ≡ Err Halt.Arguments
+PreparedBy (Some asked) (Ok start) =
+    (start.asked ≡ asked) × (StdFileBy (Ok start.table) × FirstBookBy asked.read (Ok start.book))
+PreparedBy (Some asked) (Err Halt.Arguments) = ⊥
+PreparedBy (Some asked) (Err (Halt.Table why)) = StdFileBy (Err why)
+PreparedBy (Some asked) (Err (Halt.Book why)) =
+    ((found : Option Table) × StdFileBy (Ok found)) × FirstBookBy asked.read (Err why)
 
--- with a table at hand, by what became of the book's file
-pub record WithBook (name : ℕ) (table : TableFile) (r : Prepared) : Type 0 where
-  pub table_is : r.table ≡ table
-  pub ready : r.start ≡ Start.Ready → BookIs name r.file r.book
-  pub refused_by : (n : Refusal) → r.start ≡ Start.Refused n → BookComesTo (refused n)
-  pub failed : r.start ≡ Start.Failed → r.file ≡ BookFile.Unreadable
-
--- t is the table lent, t' that of the run
-pub record PreparedBy (asked : Asked) (t : Table) (r : Prepared) (t' : Table) : Type 0 where
-  pub ready :
-      r.start ≡ Start.Ready
-      → (asked.known ≡ true) × (TableIs t r.table t' × BookIs asked.read r.file r.book)
-  -- by the table's text, or, with a table at hand, by the book's
-  pub refused_by :
-      (n : Refusal) → r.start ≡ Start.Refused n
-      → TextComesTo (refused n) ⊎ (TableIs t r.table t' × BookComesTo (refused n))
-  -- arguments that are not known, or a file that cannot be read
-  pub failed :
-      r.start ≡ Start.Failed
-      → (asked.known ≡ false) ⊎ ((r.table ≡ TableFile.Unreadable) ⊎ (r.file ≡ BookFile.Unreadable))
+-- the refusal that is answered where there is no run
+abbrev pub refusal_of : Halt → Option Refusal
+refusal_of Halt.Arguments = None
+refusal_of (Halt.Table (Unusable.Refused n)) = Some n
+refusal_of (Halt.Table Unusable.Unreadable) = None
+refusal_of (Halt.Book (Unusable.Refused n)) = Some n
+refusal_of (Halt.Book Unusable.Unreadable) = None

@@ -11,82 +11,72 @@ const WORD_ROOM: usize = 8;
 // The most arguments that are known, with the program's own name.
 const MOST: usize = 5;
 
-// Whether the arguments are these; and the places of the two names among them, 0 where a file is not named.
+// The places of the two names among the arguments, where they are named.
 #[derive(Clone, Copy)]
 pub struct Asked {
-    pub known: bool,
-    pub read: usize,
-    pub write: usize,
+    pub read: Option<usize>,
+    pub write: Option<usize>,
 }
 
-fn same(a: &[u8], b: &[u8]) -> bool {
-    if a.len() != b.len() {
-        return false;
-    }
-    let mut i: usize = 0;
-    while i < a.len() {
-        if a[i] != b[i] {
-            return false;
-        }
-        i += 1;
-    }
-    true
+// A word that comes before a name.
+#[derive(Clone, Copy)]
+enum Word {
+    Read,
+    Write,
 }
 
-// Whether an argument is a word. One that is longer than the buffer is none.
-fn is_word(rt: HostRuntime, i: usize, word: &[u8]) -> bool {
+// The word that an argument is. One that is longer than the buffer is none.
+fn word_at(rt: HostRuntime, i: usize) -> Option<Word> {
     let mut buffer = [0u8; WORD_ROOM];
-    match rt.arg(i, &mut buffer) {
-        Ok(n) => same(&buffer[..n], word),
-        Err(_) => false,
+    let n = rt.arg(i, &mut buffer).ok()?;
+    match &buffer[..n] {
+        b"--read" => Some(Word::Read),
+        b"--write" => Some(Word::Write),
+        _ => None,
     }
+}
+
+fn is_argument(rt: HostRuntime, i: usize) -> bool {
+    let mut buffer = [0u8; WORD_ROOM];
+    !matches!(rt.arg(i, &mut buffer), Err(FillError::NotPresent))
 }
 
 // How many arguments there are, with the program's own name; one more than are known stands for any more.
 fn arg_count(rt: HostRuntime) -> usize
     ensures { result ≤ 6 }
 {
-    let mut buffer = [0u8; WORD_ROOM];
-    for i in 0..=MOST {
-        if let Err(FillError::NotPresent) = rt.arg(i, &mut buffer) {
-            return i;
-        }
-    }
-    MOST + 1
+    (0..=MOST).take_while(|i| is_argument(rt, *i)).count()
 }
 
-// The place of the name that follows a word.
-fn name_after(rt: HostRuntime, word: &[u8]) -> usize {
-    if is_word(rt, 1, word) {
-        return 2;
-    }
-    if is_word(rt, 3, word) {
-        return 4;
-    }
-    0
-}
-
-// Whether so many arguments, with the program's own name, are these two names and the words before them.
-fn are_known(count: usize, read: usize, write: usize) -> bool {
-    if count > 5 {
-        return false;
-    }
-    if count > 3 {
-        return count == 5 && (read == 2 && write == 4 || read == 4 && write == 2);
-    }
-    if count > 1 {
-        return count == 3 && (read == 2 || write == 2);
-    }
-    true
-}
-
-pub fn named_files(rt: HostRuntime) -> Asked {
-    let read = name_after(rt, b"--read");
-    let write = name_after(rt, b"--write");
-    Asked {
-        known: are_known(arg_count(rt), read, write),
-        read,
-        write,
+// The names that are asked for; nothing where the arguments are not these words, each with a name after it.
+pub fn named_files(rt: HostRuntime) -> Option<Asked> {
+    match arg_count(rt) {
+        0 | 1 => Some(Asked {
+            read: None,
+            write: None,
+        }),
+        3 => match word_at(rt, 1)? {
+            Word::Read => Some(Asked {
+                read: Some(2),
+                write: None,
+            }),
+            Word::Write => Some(Asked {
+                read: None,
+                write: Some(2),
+            }),
+        },
+        5 => match (word_at(rt, 1)?, word_at(rt, 3)?) {
+            (Word::Read, Word::Write) => Some(Asked {
+                read: Some(2),
+                write: Some(4),
+            }),
+            (Word::Write, Word::Read) => Some(Asked {
+                read: Some(4),
+                write: Some(2),
+            }),
+            _ => None,
+        },
+        _ => None,
     }
 }
 

@@ -1,84 +1,76 @@
 // A file read into a lent buffer, to its end or until the buffer is full: in bounded memory, whatever the file's size.
 // The contracts speak of values, since none can say what a call of the system read (specs/Files.antt).
 ghost use Rattle.std.specs.Prelude.{◌≤◌, ◌≡◌, length};
-ghost use Rattle.credit_book.specs.Turns.{at_end};
-ghost use Rattle.credit_book.specs.Files.{AddedBy, TextReadBy, file_on};
+ghost use Rattle.credit_book.specs.Files.{AddedBy, TextReadBy, unless_full};
 
+use crate::progress::{Lapse, Progress, progress_after};
+use book::answers::Refusal;
 use std::fs::File;
-use streams::reading::{count, read_once};
+use streams::reading::read_once;
 
-// What a read answered, whether a signal interrupted it, and the place after its bytes.
+// Why a file gives nothing: its text is refused, or it cannot be read, which was told.
 #[derive(Clone, Copy)]
-pub struct Added {
-    pub got: isize,
-    pub interrupted: bool,
-    pub at: usize,
+pub enum Unusable {
+    Refused(Refusal),
+    Unreadable,
 }
 
-// How many bytes were read, in how many reads, whether there may be more to read, and whether nothing failed.
-#[derive(Clone, Copy)]
-pub struct TextRead {
-    pub len: usize,
-    pub turns: u64,
-    pub more: bool,
-    pub fine: bool,
+impl From<Refusal> for Unusable {
+    ghost use Rattle.std.specs.Prelude.{◌≡◌};
+    ghost use Rattle.credit_book.specs.declared.files.Unusable.{Unusable};
+
+    ghost from_gives = { λ why r. r ≡ Unusable.Refused why };
+
+    fn from(why: Refusal) -> Unusable {
+        Unusable::Refused(why)
+    }
 }
 
 // Reads once, into what is left of the buffer. A read that failed is told of `what`.
-fn add_some(rt: HostRuntime, file: &mut File, what: &str, text: &mut [u8], at: usize) -> Added
+fn add_some(
+    rt: HostRuntime,
+    file: &mut File,
+    what: &str,
+    text: &mut [u8],
+    at: usize,
+) -> Result<usize, Lapse>
     requires { at ≤ length text.old }
     ensures { AddedBy at text.old result text.new }
 {
-    let read = read_once(rt, file, &mut text[at..], what);
-    let n = count(read.got, &text[at..]);
-    Added {
-        got: read.got,
-        interrupted: read.interrupted,
-        at: at + n,
-    }
+    read_once(rt, file, &mut text[at..], what).map_err(Lapse::from)
 }
 
-// Whether there may be more to read that a buffer has room for, with so many bytes in it.
-fn file_on(got: isize, fine: bool, len: usize, room: usize) -> bool
-    ensures { result ≡ file_on room got fine len }
+// With so many bytes in a buffer: a full one is an end too.
+fn unless_full(progress: Progress, len: usize, room: usize) -> Progress
+    ensures { result ≡ unless_full room len progress }
 {
-    if len < room {
-        crate::reads_on(got, fine)
-    } else {
-        false
+    match progress {
+        Progress::More if len >= room => Progress::Ended,
+        _ => progress,
     }
 }
 
-// Reads a file to its end, or until the buffer is full. As to the turns, see `read_all`.
-pub fn read_text(rt: HostRuntime, file: &mut File, what: &str, text: &mut [u8]) -> TextRead
+// Reads a file to its end, or until the buffer is full, and closes it: how many bytes that gave. If not, that is told: a
+// read that failed told it, and used-up turns are told here. As to the turns, see `read_all`.
+#[tactic(auto, using(crate::proofs::FileLaws::none_yet, crate::proofs::FileLaws::next, crate::proofs::FileLaws::whole, crate::proofs::FileLaws::failed, crate::proofs::FileLaws::used_up))]
+pub fn read_text(
+    rt: HostRuntime,
+    mut file: File,
+    what: &str,
+    text: &mut [u8],
+) -> Result<usize, Unusable>
     ensures { TextReadBy result text.new }
 {
     let mut len: usize = 0;
-    let mut turns: u64 = 0;
-    let mut more = true;
-    let mut fine = true;
-    while more && turns < u64::MAX {
-        let added = add_some(rt, file, what, text, len);
-        len = added.at;
-        fine = crate::turn_fine(added.got, added.interrupted, true);
-        more = file_on(added.got, fine, len, text.len());
-        turns += 1;
+    for _ in 0..u64::MAX {
+        let read = add_some(rt, &mut file, what, text, len);
+        len += read.unwrap_or(0);
+        match unless_full(progress_after(read, true), len, text.len()) {
+            Progress::More => {}
+            Progress::Ended => return Ok(len),
+            Progress::Failed => return Err(Unusable::Unreadable),
+        }
     }
-    TextRead {
-        len,
-        turns,
-        more,
-        fine,
-    }
-}
-
-// The end of a file's reading: whether it came to its end, or filled the buffer. If not, that is told of what was read: a
-// read that failed told it, and used-up turns are told here. The file is closed.
-pub fn end_reading(rt: HostRuntime, _file: File, read: TextRead, what: &str) -> bool
-    ensures { result ≡ at_end read.more read.fine }
-{
-    if read.more {
-        let _ = eprintln!(rt; "{what}: Too many reads");
-    }
-    crate::at_end(read.more, read.fine)
+    let _ = eprintln!(rt; "{what}: Too many reads");
+    Err(Unusable::Unreadable)
 }

@@ -7,364 +7,239 @@
 mod arguments;
 mod book_file;
 mod files;
+mod progress;
 mod saving;
 mod start;
 mod std_file;
 
-ghost use Rattle.std.specs.Prelude.{◌≤◌, false, true, ◌≡◌, length};
-ghost use Rattle.book.specs.declared.answers.Answer.{Answer};
+ghost use Rattle.std.specs.Prelude.{◌≤◌, true, ◌≡◌, length, take};
 ghost use Rattle.text.specs.Answers.{text_of};
 ghost use Rattle.text.specs.Desk.{at_desk, ends, takes_all};
 ghost use Rattle.text.specs.Listing.{listing};
 ghost use Rattle.text.specs.Placing.{Stands};
-ghost use Rattle.credit_book.specs.Turns.{ClosedBy, Delivered, RanBy, ReadBy, Turned, Unclosed};
-ghost use Rattle.credit_book.specs.Turns.{at_end, chunk_room, first_bytes, out_room, reads_on, turn_fine};
+ghost use Rattle.credit_book.specs.Turns.{ClosedBy, Delivered, RanBy, ReadBy, Turned};
+ghost use Rattle.credit_book.specs.Turns.{chunk_room, count};
 ghost use Rattle.credit_book.specs.Whole.{ProgramBy};
 
 use arguments::{Asked, named_files};
-use book::answers::{Answer, Refusal};
+use book::answers::Refusal;
 use book::ledger::Book;
+use figuring::grid::printed_grid;
 use figuring::tables::Table;
+use progress::{Lapse, Progress, progress_after};
 use saving::save;
-use start::{Prepared, Start, prepare};
-use streams::reading::{count, read_once};
-use streams::telling::tell;
-use text::answering::ANSWER_ROOM;
+use start::{Halt, Start, prepare};
+use streams::reading::read_once;
+use streams::telling::told;
+use text::answering::{ANSWER_ROOM, put_answer};
 use text::desk::Desk;
+use text::listing::put_listing;
 
 // The most bytes of a read, and room for the answers to them; a listing takes less.
 const CHUNK: usize = 4_096;
 
 const OUT_ROOM: usize = ANSWER_ROOM * CHUNK;
 
-// How many bytes were handed to standard output, and whether it took them all.
+// How many bytes were handed over to a file or to standard output, and whether it took them all. That many were handed
+// over even where a part of them was not taken.
 #[derive(Clone, Copy)]
 pub struct Wrote {
     pub handed: usize,
     pub fine: bool,
 }
 
-// A desk, and the writing of what it said.
-#[derive(Clone, Copy)]
-pub struct Said {
-    pub desk: Desk,
-    pub wrote: Wrote,
-}
-
-// The desk after a read; what the read answered, and whether a signal interrupted it; the writing of the answers.
+// What a read answered, and the writing of the answers.
 #[derive(Clone, Copy)]
 pub struct Turn {
-    pub desk: Desk,
-    pub got: isize,
-    pub interrupted: bool,
+    pub read: Result<usize, Lapse>,
     pub wrote: Wrote,
 }
 
-// The desk after the reads, how many there were, whether there may be more to read, and whether nothing failed.
+// How many reads there were, and how far they came.
 #[derive(Clone, Copy)]
 pub struct Input {
-    pub desk: Desk,
     pub turns: u64,
-    pub more: bool,
-    pub fine: bool,
+    pub progress: Progress,
 }
 
-// The writing of the last line's answer, and of the listing; the book after the last line.
+// The writing of the last line's answer, and of the listing, if there was one; the book after the last line.
 #[derive(Clone, Copy)]
 pub struct Closed {
     pub last: Wrote,
-    pub listed: Wrote,
+    pub listed: Option<Wrote>,
     pub book: Book,
 }
 
-// The input as it was read, and what was written at its end.
+// The input as it was read, and what was written at its end, if it came to it.
 #[derive(Clone, Copy)]
 pub struct Ran {
     pub input: Input,
-    pub closed: Closed,
+    pub closed: Option<Closed>,
 }
 
-// What was asked, what came before the run, the writing of a refused text's answer, the run, and the writing out of its book.
+// A run, what it began with, and the writing out of its book, if there was one; or what was asked for, why there is no run,
+// and the writing of a refused text's answer.
 #[derive(Clone, Copy)]
-pub struct Outcome {
-    pub asked: Asked,
-    pub prepared: Prepared,
-    pub answer: Wrote,
-    pub ran: Ran,
-    pub saved: Wrote,
+pub enum Outcome {
+    Ran(Start, Ran, Option<Wrote>),
+    Halted(Option<Asked>, Halt, Option<Wrote>),
 }
 
+// Writes a text to standard output. If that does not take it, that is told.
 fn written(rt: HostRuntime, text: &[u8]) -> Wrote
     ensures { result.handed ≡ length text.now }
 {
-    let fine = took_all(rt, text);
+    let done = told(rt, "credit-book: standard output", rt.write_all(text));
     Wrote {
         handed: text.len(),
-        fine,
+        fine: done.is_some(),
     }
 }
 
-// Whether standard output took a text. If not, that is told.
-fn took_all(rt: HostRuntime, text: &[u8]) -> bool {
-    match rt.write_all(text) {
-        Ok(()) => true,
-        Err(why) => {
-            let _ = tell(&mut rt.stderr(), "credit-book: standard output", &why);
-            false
-        }
-    }
-}
-
-// What is not written, since something failed before.
-fn unwritten() -> Wrote
-    ensures { (result.handed ≡ 0) × (result.fine ≡ false) }
+// Answers a chunk, and writes what the desk said.
+fn answer_chunk(
+    rt: HostRuntime,
+    desk: &mut Desk,
+    table: Table,
+    chunk: &[u8],
+    out: &mut [u8; OUT_ROOM],
+) -> Wrote
+    requires { length chunk.now ≤ chunk_room }
+    ensures { Delivered (takes_all table (at_desk desk.old) chunk.now) out.old desk.new result out.new }
 {
-    Wrote {
-        handed: 0,
-        fine: false,
-    }
-}
-
-// Writes what a desk said, the first at bytes of out.
-fn say(rt: HostRuntime, desk: Desk, at: usize, out: &[u8]) -> Said
-    requires { at ≤ length out.now }
-    ensures { (result.desk ≡ desk) × (result.wrote.handed ≡ at) }
-{
-    let wrote = written(rt, &out[..at]);
-    Said { desk, wrote }
-}
-
-fn answer_chunk(rt: HostRuntime, desk: Desk, table: Table, chunk: &[u8], out: &mut [u8]) -> Said
-    requires { (length chunk.now ≤ chunk_room) × (out_room ≤ length out.old) }
-    ensures { Delivered (takes_all table (at_desk desk) chunk.now)
-        out.old result.desk result.wrote out.new }
-{
-    let reply = text::desk::take_in(desk, table, chunk, out);
-    let after = reply.desk;
-    say(rt, after, reply.at, out)
+    let said = desk.take_in(table, chunk, out).unwrap();
+    written(rt, &out[..said])
 }
 
 // The answer to a last line that lacks its line feed.
-fn answer_last(rt: HostRuntime, desk: Desk, table: Table, out: &mut [u8]) -> Said
-    requires { out_room ≤ length out.old }
-    ensures { Delivered (ends table (at_desk desk)) out.old result.desk result.wrote out.new }
+fn answer_last(rt: HostRuntime, desk: &mut Desk, table: Table, out: &mut [u8; OUT_ROOM]) -> Wrote
+    ensures { Delivered (ends table (at_desk desk.old)) out.old desk.new result out.new }
 {
-    let ended = text::desk::last(desk, table, out);
-    let after = ended.desk;
-    say(rt, after, ended.at, out)
+    let said = desk.last(table, out).unwrap();
+    written(rt, &out[..said])
 }
 
-// The cells of a desk's book. It takes what was said before, so that nothing is listed after a write that failed.
-fn list_cells(rt: HostRuntime, said: Said, out: &mut [u8]) -> Wrote
-    requires { (said.wrote.fine ≡ true) × (out_room ≤ length out.old) }
-    ensures { Stands (listing said.desk.book) 0 out.old result.handed out.new }
+// The cells of a book. It takes the writing before, so that nothing is listed after one that failed.
+fn list_cells(rt: HostRuntime, last: Wrote, book: Book, out: &mut [u8; OUT_ROOM]) -> Wrote
+    requires { last.fine ≡ true }
+    ensures { Stands (listing book) 0 out.old result.handed out.new }
 {
-    let desk = said.desk;
-    let book = desk.book;
-    let placed = text::listing::put_listing(out, book);
-    let at = placed.at;
-    written(rt, &out[..at])
+    let listed = put_listing(out, book).unwrap();
+    written(rt, &out[..listed])
 }
 
-// Whether nothing failed in a turn. A read that a signal interrupted is tried again.
-fn turn_fine(got: isize, interrupted: bool, wrote: bool) -> bool
-    ensures { result ≡ turn_fine got interrupted wrote }
-{
-    if got < 0 { interrupted && wrote } else { wrote }
-}
-
-// Whether there may be more to read after a turn. A short read is not the end of the input.
-fn reads_on(got: isize, fine: bool) -> bool
-    ensures { result ≡ reads_on got fine }
-{
-    if got == 0 { false } else { fine }
-}
-
-// Answers what a read left at the buffer's start, as many bytes as it answered, be it none.
+// Answers as many bytes at the buffer's start as the read gave, be it none.
 fn answer_read(
     rt: HostRuntime,
-    desk: Desk,
+    desk: &mut Desk,
     table: Table,
-    buffer: &[u8],
-    got: isize,
-    out: &mut [u8],
-) -> Said
-    requires { (length buffer.now ≡ chunk_room) × (out_room ≤ length out.old) }
-    ensures { Delivered (takes_all table (at_desk desk) (first_bytes got buffer.now))
-        out.old result.desk result.wrote out.new }
+    buffer: &[u8; CHUNK],
+    read: Result<usize, Lapse>,
+    out: &mut [u8; OUT_ROOM],
+) -> Wrote
+    requires { count read ≤ chunk_room }
+    ensures { Delivered (takes_all table (at_desk desk.old) (take (count read) buffer.now)) out.old desk.new result out.new }
 {
-    let n = count(got, buffer);
-    answer_chunk(rt, desk, table, &buffer[..n], out)
+    answer_chunk(rt, desk, table, &buffer[..read.unwrap_or(0)], out)
 }
 
 // Reads once, and answers what came.
-fn read_some(rt: HostRuntime, desk: Desk, table: Table, out: &mut [u8]) -> Turn
-    requires { out_room ≤ length out.old }
-    ensures { Turned table desk out.old result out.new }
+fn read_some(rt: HostRuntime, desk: &mut Desk, table: Table, out: &mut [u8; OUT_ROOM]) -> Turn
+    ensures { Turned table desk.old out.old result desk.new out.new }
 {
     let mut chunk = [0u8; CHUNK];
     let mut input = rt.stdin();
-    let read = read_once(rt, &mut input, &mut chunk, "credit-book: standard input");
-    let said = answer_read(rt, desk, table, &chunk, read.got, out);
-    let d = said.desk;
-    let wrote = said.wrote;
-    Turn {
-        desk: d,
-        got: read.got,
-        interrupted: read.interrupted,
-        wrote,
-    }
+    let read = read_once(rt, &mut input, &mut chunk, "credit-book: standard input").map_err(
+        Lapse::from,
+    );
+    let wrote = answer_read(rt, desk, table, &chunk, read, out);
+    Turn { read, wrote }
 }
 
-// A proved loop has to end, and nothing says that the input does: it counts its turns up to a number no run reaches.
-fn read_all(rt: HostRuntime, table: Table, book: Book, out: &mut [u8]) -> Input
-    requires { out_room ≤ length out.old }
-    ensures { ReadBy table book result }
+// Reads the input to its end or a failure, into a desk that begins with the book. A proved loop has to end, and nothing
+// says that the input does: it counts its turns up to a number no run reaches.
+#[tactic(auto, using(crate::proofs::TurnLaws::none_yet, crate::proofs::TurnLaws::next, crate::proofs::TurnLaws::read_by))]
+fn read_all(rt: HostRuntime, table: Table, book: Book, out: &mut [u8; OUT_ROOM]) -> (Desk, Input)
+    ensures { ReadBy table book (at_desk result.0) result.1 }
 {
-    let mut desk = text::desk::open_desk(book);
-    let mut turns: u64 = 0;
-    let mut more = true;
-    let mut fine = true;
-    while more && turns < u64::MAX {
-        let turn = read_some(rt, desk, table, out);
-        let wrote = turn.wrote;
-        desk = turn.desk;
-        fine = turn_fine(turn.got, turn.interrupted, wrote.fine);
-        more = reads_on(turn.got, fine);
-        turns += 1;
+    let mut desk = Desk::open(book);
+    for turns in 0..u64::MAX {
+        let turn = read_some(rt, &mut desk, table, out);
+        let progress = progress_after(turn.read, turn.wrote.fine);
+        match progress {
+            Progress::More => {}
+            _ => {
+                let turns = turns + 1;
+                return (desk, Input { turns, progress });
+            }
+        }
     }
-    Input {
-        desk,
-        turns,
-        more,
-        fine,
-    }
+    let input = Input {
+        turns: u64::MAX,
+        progress: Progress::More,
+    };
+    (desk, input)
 }
 
-// Whether the input came to its end, and nothing failed.
-fn at_end(more: bool, fine: bool) -> bool
-    ensures { result ≡ at_end more fine }
+// The end of the input: the last line's answer, then the cells. It takes the input, so that nothing is answered or listed
+// after one that failed.
+fn close(
+    rt: HostRuntime,
+    input: Input,
+    mut desk: Desk,
+    table: Table,
+    out: &mut [u8; OUT_ROOM],
+) -> Closed
+    requires { input.progress ≡ Progress.Ended }
+    ensures { ClosedBy table (at_desk desk) result }
 {
-    !more && fine
-}
-
-// The end of the input: the last line's answer, then the cells.
-fn close(rt: HostRuntime, input: Input, table: Table, out: &mut [u8]) -> Closed
-    requires { (at_end input.more input.fine ≡ true) × (out_room ≤ length out.old) }
-    ensures { ClosedBy table (at_desk input.desk) result }
-{
-    let desk = input.desk;
-    let said = answer_last(rt, desk, table, out);
-    let last = said.wrote;
-    let after = said.desk;
-    let book = after.book;
-    if last.fine {
-        let listed = list_cells(rt, said, out);
-        return Closed { last, listed, book };
-    }
-    let listed = unwritten();
+    let last = answer_last(rt, &mut desk, table, out);
+    let book = desk.book;
+    let listed = if last.fine {
+        Some(list_cells(rt, last, book, out))
+    } else {
+        None
+    };
     Closed { last, listed, book }
 }
 
-// Nothing is written at the end.
-fn unclosed(desk: Desk) -> Closed
-    ensures { Unclosed result }
-{
-    let last = unwritten();
-    let book = desk.book;
-    Closed {
-        last,
-        listed: last,
-        book,
-    }
-}
-
-fn run(rt: HostRuntime, table: Table, book: Book, out: &mut [u8]) -> Ran
-    requires { out_room ≤ length out.old }
+fn run(rt: HostRuntime, table: Table, book: Book, out: &mut [u8; OUT_ROOM]) -> Ran
     ensures { RanBy table book result }
 {
-    let input = read_all(rt, table, book, out);
-    if at_end(input.more, input.fine) {
-        let closed = close(rt, input, table, out);
-        return Ran { input, closed };
-    }
-    let desk = input.desk;
-    let closed = unclosed(desk);
+    let (desk, input) = read_all(rt, table, book, out);
+    let closed = match input.progress {
+        Progress::Ended => Some(close(rt, input, desk, table, out)),
+        _ => None,
+    };
     Ran { input, closed }
 }
 
 // The answer of a refused table or book, alone.
-fn refuse(rt: HostRuntime, r: Refusal, out: &mut [u8]) -> Wrote
-    requires { out_room ≤ length out.old }
-    ensures { Stands (text_of (Answer.Refused r)) 0 out.old result.handed out.new }
+fn refuse(rt: HostRuntime, why: Refusal, out: &mut [u8; OUT_ROOM]) -> Wrote
+    ensures { Stands (text_of (Err why)) 0 out.old result.handed out.new }
 {
-    let placed = text::answering::put_answer(out, 0, Answer::Refused(r));
-    let at = placed.at;
-    written(rt, &out[..at])
+    let answered = put_answer(out, 0, Err(why)).unwrap();
+    written(rt, &out[..answered])
 }
 
-// No run: nothing is read.
-fn unrun(book: Book) -> Ran
-    ensures { (result.input.turns ≡ 0) × Unclosed result.closed }
-{
-    let desk = text::desk::open_desk(book);
-    let input = Input {
-        desk,
-        turns: 0,
-        more: true,
-        fine: false,
-    };
-    let closed = unclosed(desk);
-    Ran { input, closed }
-}
-
-fn program(rt: HostRuntime, out: &mut [u8]) -> Outcome
-    requires { out_room ≤ length out.old }
+fn program(rt: HostRuntime, out: &mut [u8; OUT_ROOM]) -> Outcome
     ensures { ProgramBy out.old result out.new }
 {
     let asked = named_files(rt);
-    let mut table = figuring::grid::printed_grid();
-    let prepared = prepare(rt, asked, &mut table);
-    let start = prepared.start;
-    match start {
-        Start::Ready => {
-            let book = prepared.book;
-            let ran = run(rt, table, book, out);
-            let closed = ran.closed;
-            let saved = save(rt, asked.write, closed, out);
-            let answer = unwritten();
-            Outcome {
-                asked,
-                prepared,
-                answer,
-                ran,
-                saved,
-            }
+    match prepare(rt, asked) {
+        Ok(start) => {
+            let table = start.table.unwrap_or(printed_grid());
+            let ran = run(rt, table, start.book, out);
+            let saved = save(rt, start.asked.write, ran.closed, out);
+            Outcome::Ran(start, ran, saved)
         }
-        Start::Refused(r) => {
-            let book = prepared.book;
-            let answer = refuse(rt, r, out);
-            let ran = unrun(book);
-            let saved = unwritten();
-            Outcome {
-                asked,
-                prepared,
-                answer,
-                ran,
-                saved,
-            }
-        }
-        Start::Failed => {
-            let book = prepared.book;
-            let ran = unrun(book);
-            let answer = unwritten();
-            Outcome {
-                asked,
-                prepared,
-                answer,
-                ran,
-                saved: answer,
-            }
+        Err(halt) => {
+            // no `map`: its closure hides the buffer, and the proof does not close
+            let answer = match halt.refusal() {
+                Some(why) => Some(refuse(rt, why, out)),
+                None => None,
+            };
+            Outcome::Halted(asked, halt, answer)
         }
     }
 }

@@ -5,7 +5,7 @@ ghost use Rattle.std.specs.Prelude.{◌≤◌, length};
 ghost use Rattle.credit_book.specs.Turns.{out_room};
 ghost use Rattle.credit_book.specs.Saving.{SavedBy, SavesBook};
 
-use crate::{Closed, Wrote, unwritten};
+use crate::{Closed, OUT_ROOM, Wrote};
 use book::ledger::Book;
 use std::env::Env;
 use std::fs::{File, OpenOptions};
@@ -13,7 +13,7 @@ use std::io::{ErrorKind, Write};
 use std::os::unix::fs::OpenOptionsExt;
 use std::{fs, io};
 use streams::arguments::{PATH_ROOM, path_of};
-use streams::telling::tell;
+use streams::telling::told;
 use text::writing::write_book;
 
 // The new file's name is the file's with a dot after it, and a number of six digits that no other file has.
@@ -23,17 +23,6 @@ const NUMBERS: u32 = 1_000_000;
 
 // What is told that failed.
 const WHAT: &str = "credit-book: --write";
-
-// Whether all went well. If not, that is told.
-fn is_fine(rt: HostRuntime, done: io::Result<()>) -> bool {
-    match done {
-        Ok(()) => true,
-        Err(why) => {
-            let _ = tell(&mut rt.stderr(), WHAT, &why);
-            false
-        }
-    }
-}
 
 // Writes a text to an open file, syncs it and closes it.
 fn fill_file(mut file: File, text: &[u8]) -> io::Result<()> {
@@ -52,11 +41,8 @@ fn create_temp(rt: HostRuntime, name: &str) -> io::Result<(File, String)> {
             .open(&rt, beside.as_str());
         match made {
             Ok(file) => return Ok((file, beside)),
-            Err(why) => {
-                if why.kind() != ErrorKind::AlreadyExists {
-                    return Err(why);
-                }
-            }
+            Err(why) if why.kind() != ErrorKind::AlreadyExists => return Err(why),
+            Err(_) => {}
         }
     }
     Err(io::Error::from(ErrorKind::AlreadyExists))
@@ -65,59 +51,55 @@ fn create_temp(rt: HostRuntime, name: &str) -> io::Result<(File, String)> {
 // A new file beside the one of a name, with the text; then it is given the name.
 fn replace(rt: HostRuntime, name: &str, text: &[u8]) -> io::Result<()> {
     let (file, beside) = create_temp(rt, name)?;
-    let mut done = fill_file(file, text);
-    if done.is_ok() {
-        done = fs::rename(&rt, beside.as_str(), name);
-    }
+    let done = fill_file(file, text).and_then(|()| fs::rename(&rt, beside.as_str(), name));
     if done.is_err() {
         let _ = fs::remove_file(&rt, beside.as_str());
     }
     done
 }
 
-// Puts a text in the place of the file that an argument names. Whether all went well.
-pub fn save_named(rt: HostRuntime, name: usize, text: &[u8]) -> bool {
+// Puts a text in the place of the file that an argument names.
+fn save_named(rt: HostRuntime, name: usize, text: &[u8]) -> io::Result<()> {
     let mut buffer = [0u8; PATH_ROOM];
     let answer = rt.arg(name, &mut buffer);
-    match path_of(answer, &buffer) {
-        Ok(path) => {
-            if path.len() > PATH_ROOM - ENDING {
-                let _ = eprintln!(rt; "{WHAT}: the name is too long");
-                return false;
-            }
-            is_fine(rt, replace(rt, path, text))
-        }
-        Err(why) => is_fine(rt, Err(why)),
+    let path = path_of(answer, &buffer)?;
+    if path.len() > PATH_ROOM - ENDING {
+        return Err(io::Error::new(ErrorKind::InvalidFilename, "the name is too long"));
     }
+    replace(rt, path, text)
 }
 
-// Hands the text of a book to the file that an argument names.
-fn save_book(rt: HostRuntime, name: usize, book: Book, out: &mut [u8]) -> Wrote
+// Hands the text of a book to the file that an argument names. If that does not go well, that is told.
+fn save_book(rt: HostRuntime, name: usize, book: &Book, out: &mut [u8]) -> Option<Wrote>
     requires { out_room ≤ length out.old }
-    ensures { SavesBook book result out.new }
+    ensures { SavesBook book.now result out.new }
 {
-    let wrote = write_book(out, book);
-    match wrote {
-        text::writing::Wrote::Length(n) => {
-            let fine = save_named(rt, name, &out[..n]);
-            Wrote { handed: n, fine }
+    match write_book(out, book) {
+        Ok(n) => {
+            let done = told(rt, WHAT, save_named(rt, name, &out[..n]));
+            Some(Wrote {
+                handed: n,
+                fine: done.is_some(),
+            })
         }
-        text::writing::Wrote::Refused(_) => unwritten(),
+        Err(_) => None,
     }
 }
 
 // The book after a run, unless no file is named or something failed before.
-pub fn save(rt: HostRuntime, name: usize, closed: Closed, out: &mut [u8]) -> Wrote
-    requires { out_room ≤ length out.old }
+pub fn save(
+    rt: HostRuntime,
+    name: Option<usize>,
+    closed: Option<Closed>,
+    out: &mut [u8; OUT_ROOM],
+) -> Option<Wrote>
     ensures { SavedBy name closed result }
 {
-    if name == 0 {
-        return unwritten();
-    }
-    let listed = closed.listed;
+    let name = name?;
+    let closed = closed?;
+    let listed = closed.listed?;
     if !listed.fine {
-        return unwritten();
+        return None;
     }
-    let book = closed.book;
-    save_book(rt, name, book, out)
+    save_book(rt, name, &closed.book, out)
 }

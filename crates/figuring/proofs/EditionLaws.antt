@@ -9,43 +9,42 @@ use borrow.Author.Tests.{leb-true, ltb-false, lt-ltb, lt-leb, ne_eqb}
 use lib.Dec.{ltb, leb, eqb}
 use lib.ListN.{get_or}
 use Rattle.figuring.specs.Parts.{between, standard_least, standard_most}
-use Rattle.figuring.specs.Standards.{◌through◌, grams_of, is_absent}
+use Rattle.figuring.specs.Standards.{Standard, ◌through◌, grams_of, is_absent}
 use Rattle.figuring.specs.Tables.{Table, is_standard, ordinary_in}
 use Rattle.figuring.specs.Editions.{earlier_table, later_table, alternative_sets, alternative_years, in_table, alternative_for}
 use Rattle.figuring.specs.Editions.{standard_under, no_edition, CardEditions}
-use Rattle.figuring.specs.declared.standards.Standard.{Standard}
-use Rattle.figuring.specs.declared.standards.Standard.TheVariants.{Given, Absent}
+use Rattle.std.proofs.Common.{Some, None}
 use Rattle.figuring.proofs.StandardLaws.{either, in_range, in_either, range_is, present_given}
 use Rattle.figuring.proofs.TableLaws.{ordinary_in_range, use_known}
 
 -- ---- none
-absent_either : (b : Bool) (x z : Standard) → x ≡ Absent → z ≡ Absent → cond b x z ≡ Absent
-absent_either b x z = either (λ j x. x ≡ Absent) b 0 0 x z
+absent_either : (b : Bool) (x z : Standard) → x ≡ None → z ≡ None → cond b x z ≡ None
+absent_either b x z = either (λ j x. x ≡ None) b 0 0 x z
 
 -- where neither table has a standard for a set and a use, no edition but the ordinary one has
 absent_in_both :
-    (x : Standard) (e s u y : ℕ) → 0 < e → in_table earlier_table s u ≡ Absent → in_table later_table s u ≡ Absent
-    → standard_under x e s u y ≡ Absent
+    (x : Standard) (e s u y : ℕ) → 0 < e → in_table earlier_table s u ≡ None → in_table later_table s u ≡ None
+    → standard_under x e s u y ≡ None
 unfolding standard_under alternative_for
 absent_in_both x e s u y h p q =
     rw (ne_eqb e 0 (λ z. omega arith))
     (absent_either (alternative_years y) _ _ (absent_either (eqb e 1) _ _ p (absent_either (eqb e 2) _ _ q refl)) refl)
 
-above_2 : (x : Standard) (e s u y : ℕ) → 2 < e → standard_under x e s u y ≡ Absent
+above_2 : (x : Standard) (e s u y : ℕ) → 2 < e → standard_under x e s u y ≡ None
 unfolding standard_under alternative_for
 above_2 x e s u y h =
     rw (ne_eqb e 0 (λ z. omega arith), ne_eqb e 1 (λ z. omega arith), ne_eqb e 2 (λ z. omega arith))
     (absent_either (alternative_years y) _ _ refl refl)
 
 -- ---- sets and uses without a column
-no_set : (t : List ℕ) (s u : ℕ) → (2 through 3) s ≡ false → in_table t s u ≡ Absent
+no_set : (t : List ℕ) (s u : ℕ) → (2 through 3) s ≡ false → in_table t s u ≡ None
 unfolding in_table
 no_set t s u h =
     let out : (n : ℕ) → (2 through 3) n ≡ true → s ≡ n → ⊥ = λ n e z. true≢false (sym e ∙ sym (ap (2 through 3) z) ∙ h) in
     rw (ne_eqb s 2 (out 2 refl), ne_eqb s 3 (out 3 refl))
     (absent_either (eqb u 0) _ _ refl (absent_either (eqb u 1) _ _ refl refl))
 
-no_use : (t : List ℕ) (s u : ℕ) → 1 < u → in_table t s u ≡ Absent
+no_use : (t : List ℕ) (s u : ℕ) → 1 < u → in_table t s u ≡ None
 unfolding in_table
 no_use t s u h = rw (ne_eqb u 0 (λ z. omega arith), ne_eqb u 1 (λ z. omega arith))
 
@@ -57,15 +56,14 @@ other_set_lem s n m = go (leb 2 s) refl
     go true e = let h : 2 ≤ s = leb-true 2 s e in lt-leb s 3 (omega arith)
     go false e = refl
 
-given_use : (u a b : ℕ) → u < 2 → is_absent (cond (eqb u 0) (Given a) (cond (eqb u 1) (Given b) Absent)) ≡ false
-unfolding is_absent
+given_use : (u a b : ℕ) → u < 2 → is_absent (cond (eqb u 0) (Some a) (cond (eqb u 1) (Some b) None)) ≡ false
 given_use zero a b h = refl
 given_use (suc zero) a b h = refl
 given_use (suc (suc u)) a b h = absurd (omega arith)
 
 -- for a use of 0 or 1 a table has a standard exactly in its sets
 table_absent : (t : List ℕ) (s u : ℕ) → u < 2 → is_absent (in_table t s u) ≡ not (alternative_sets s)
-unfolding in_table alternative_sets is_absent
+unfolding in_table alternative_sets
 table_absent t s u h = go (ℕ_discrete s 2) (ℕ_discrete s 3)
   where
     go : Dec (s ≡ 2) → Dec (s ≡ 3) → is_absent (in_table t s u) ≡ not (alternative_sets s)
@@ -74,8 +72,7 @@ table_absent t s u h = go (ℕ_discrete s 2) (ℕ_discrete s 3)
     go (no n) (no m) = let o = other_set_lem s n m in rw o (ap is_absent (no_set t s u o))
 
 outside :
-    (x z : Bool) (w : Standard) → is_absent w ≡ not x → (not x || not z) ≡ is_absent (cond z w Absent)
-unfolding is_absent
+    (x z : Bool) (w : Standard) → is_absent w ≡ not x → (not x || not z) ≡ is_absent (cond z w None)
 outside true true w h = sym h
 outside true false w h = refl
 outside false true w h = sym h
@@ -85,12 +82,12 @@ outside false false w h = refl
 module _ (t : Table) (s u y : ℕ) (h : is_absent (ordinary_in t s u y) ≡ false) where
   in_edition :
       (table : List ℕ)
-      → (not (alternative_sets s) || not (alternative_years y)) ≡ is_absent (cond (alternative_years y) (in_table table s u) Absent)
+      → (not (alternative_sets s) || not (alternative_years y)) ≡ is_absent (cond (alternative_years y) (in_table table s u) None)
   in_edition table =
       outside (alternative_sets s) (alternative_years y) (in_table table s u) (table_absent table s u (use_known t s u y h))
 
   seventeen : (e : ℕ) → no_edition e s y ≡ is_absent (standard_under (ordinary_in t s u y) e s u y)
-  unfolding no_edition standard_under alternative_for is_absent
+  unfolding no_edition standard_under alternative_for
   seventeen e = go (ℕ_discrete e 0) (ℕ_discrete e 1) (ℕ_discrete e 2)
     where
       go : Dec (e ≡ 0) → Dec (e ≡ 1) → Dec (e ≡ 2) → no_edition e s y ≡ is_absent (standard_under (ordinary_in t s u y) e s u y)
@@ -103,7 +100,7 @@ module _ (t : Table) (s u y : ℕ) (h : is_absent (ordinary_in t s u y) ≡ fals
   -- where 17 does not apply there is a standard
   pub named :
       (e : ℕ) → no_edition e s y ≡ false
-      → standard_under (ordinary_in t s u y) e s u y ≡ Given (grams_of (standard_under (ordinary_in t s u y) e s u y))
+      → standard_under (ordinary_in t s u y) e s u y ≡ Some (grams_of (standard_under (ordinary_in t s u y) e s u y))
   named e n = present_given (standard_under (ordinary_in t s u y) e s u y) (sym (seventeen e) ∙ n)
 
 -- an edition that 17 lets pass is 0, 1 or 2
@@ -118,8 +115,8 @@ edition_known e s y h = go (ltb 2 e) _ refl h
 -- ---- range
 table_in_range :
     (t : List ℕ) (s u : ℕ)
-    → in_range (Given (get_or t 0 0)) ≡ true → in_range (Given (get_or t 1 0)) ≡ true
-    → in_range (Given (get_or t 2 0)) ≡ true → in_range (Given (get_or t 3 0)) ≡ true
+    → in_range (Some (get_or t 0 0)) ≡ true → in_range (Some (get_or t 1 0)) ≡ true
+    → in_range (Some (get_or t 2 0)) ≡ true → in_range (Some (get_or t 3 0)) ≡ true
     → in_range (in_table t s u) ≡ true
 unfolding in_table
 table_in_range t s u p₂ p₃ q₂ q₃ =
@@ -138,7 +135,7 @@ under_in_range x e s u y h =
     refl)
 
 under_range :
-    (t : Table) (e s u y : ℕ) {g : ℕ} → standard_under (ordinary_in t s u y) e s u y ≡ Given g
+    (t : Table) (e s u y : ℕ) {g : ℕ} → standard_under (ordinary_in t s u y) e s u y ≡ Some g
     → (standard_least ≤ g) × (g ≤ standard_most)
 under_range t e s u y d =
     let x = ordinary_in t s u y in

@@ -10,28 +10,27 @@ use lib.Dec.{ltb}
 use lib.ListN.{get_or, get_or-eq_default}
 use Rattle.figuring.specs.Years.{first_year, last_year}
 use Rattle.figuring.specs.Parts.{between}
-use Rattle.figuring.specs.Standards.{standard_for, vocational, tractor, grams_of}
+use Rattle.figuring.specs.Standards.{Standard, standard_for, vocational, tractor, grams_of}
 use Rattle.figuring.specs.Grid.{grid_years, grid_columns, grid_row, grid_from, printed_grid, row_of, column_of}
 use Rattle.figuring.specs.Tables.{built_in, entry, is_standard, standard_of}
-use Rattle.figuring.specs.declared.standards.Standard.{Standard}
-use Rattle.figuring.specs.declared.standards.Standard.TheVariants.{Given, Absent}
+use Rattle.std.proofs.Common.{Some, None}
 use Rattle.figuring.proofs.StandardLaws.{every, in_range, in_range_lem, last_after}
 
 -- ---- entries: a standard is within the limits and none is 0, so the entry gives it back
 back_of : (x : Standard) → in_range x ≡ true → standard_of (grams_of x) ≡ x
-unfolding standard_of is_standard between grams_of
-back_of (Given g) r = rw r
-back_of Absent r = refl
+unfolding standard_of is_standard between
+back_of (Some g) r = rw r
+back_of None r = refl
 
 back : (s u y : ℕ) → standard_of (grams_of (standard_for s u y)) ≡ standard_for s u y
 back s u y = back_of (standard_for s u y) (in_range_lem s u y)
 
 -- ---- columns
 in_column : (s u y : ℕ) → get_or (grid_row y) (column_of s u) 0 ≡ grams_of (standard_for s u y)
-unfolding grid_row standard_for vocational tractor grams_of
+unfolding grid_row standard_for vocational tractor
 in_column s u y = every (λ j x. get_or (grid_row y) j 0 ≡ grams_of x) y refl refl refl refl refl refl refl s u
 
-pub no_column : (s u y : ℕ) → grid_columns ≤ column_of s u → standard_for s u y ≡ Absent
+pub no_column : (s u y : ℕ) → grid_columns ≤ column_of s u → standard_for s u y ≡ None
 unfolding standard_of is_standard between grid_row
 no_column s u y h =
     sym (back s u y)

@@ -1,16 +1,15 @@
--- Laws of lots and shortages in time: the code's difference against the rule's sum, and what a test that holds says.
-use Prim.Native.Nat.{ℕ, ◌+◌, ◌-◌, ◌≤◌, ◌<◌}
+-- Laws of lots and shortages in time: what a test that holds says.
+use Prim.Native.Nat.{ℕ, ◌+◌, ◌≤◌, ◌<◌}
 use mathlib.Core.Bool.{true, false, not, ◌&&◌}
-use mathlib.Core.Path.{◌≡◌, sym, ◌∙◌}
+use mathlib.Core.Path.{◌≡◌}
 use native.Mathlib.Omega.{arith}
-use native.Mathlib.Decide.{dec_le}
-use borrow.Author.Tests.{ltb-true, leb-true, not-false, lt-ltb, le-ltb, le-leb, lt-leb}
+use borrow.Author.Tests.{ltb-true, leb-true, not-false, lt-ltb, le-leb}
 use lib.Dec.{ltb, leb}
 use Rattle.figuring.specs.Years.{first_year}
 use Rattle.figuring.proofs.BoolLaws.{both, and_intro}
 use Rattle.figuring.specs.Life.{closed_year, live, open_short}
 
--- ── closed years, and those at most `life` years back
+-- ── closed years
 pub record Closed (Y y : ℕ) : Type 0 where
   pub from : first_year ≤ y
   pub closed : y < Y
@@ -20,22 +19,6 @@ unfolding closed_year
 closed_is Y y e =
     let p = both _ _ e in
     record { from = leb-true _ _ p.0; closed = ltb-true _ _ p.1 }
-
--- `open_year - year <= life` in a closed year
-pub young : (Y y life : ℕ) → closed_year Y y ≡ true → leb (Y - y) life ≡ (closed_year Y y && leb Y (y + life))
-young Y y life e = rw e (go (dec_le (Y - y) life) (closed_is Y y e))
-  where
-    go : Dec (Y - y ≤ life) → Closed Y y → leb (Y - y) life ≡ leb Y (y + life)
-    go (yes p) h = le-leb _ _ p ∙ sym (le-leb Y (y + life) (omega (arith, h)))
-    go (no p) h = lt-leb (Y - y) life (omega arith) ∙ sym (lt-leb Y (y + life) (omega (arith, h)))
-
--- `open_year - year > life` in a closed year
-pub old : (Y y life : ℕ) → closed_year Y y ≡ true → ltb life (Y - y) ≡ (closed_year Y y && ltb (y + life) Y)
-old Y y life e = rw e (go (dec_le (Y - y) life) (closed_is Y y e))
-  where
-    go : Dec (Y - y ≤ life) → Closed Y y → ltb life (Y - y) ≡ ltb (y + life) Y
-    go (yes p) h = le-ltb life (Y - y) p ∙ sym (le-ltb (y + life) Y (omega (arith, h)))
-    go (no p) h = lt-ltb life (Y - y) (omega arith) ∙ sym (lt-ltb (y + life) Y (omega (arith, h)))
 
 -- ── what a test says where it holds
 pub record Young (life Y y : ℕ) : Type 0 where

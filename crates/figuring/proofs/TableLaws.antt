@@ -13,12 +13,12 @@ use lib.ListN.{get_or, get_or-replicate}
 use Rattle.figuring.specs.Years.{first_year, last_year}
 use Rattle.figuring.specs.Below.{all_below}
 use Rattle.figuring.specs.Parts.{between, standard_least, standard_most}
-use Rattle.figuring.specs.Standards.{standard_for, vocational, tractor, spark, printed_for, grams_of, is_absent}
+use Rattle.figuring.specs.Standards.{standard_for, vocational, tractor, spark, printed_for, is_absent}
 use Rattle.figuring.specs.Grid.{grid_years, grid_columns, grid_row, grid_from, printed_grid, row_of, column_of}
 use Rattle.figuring.specs.Tables.{Table, built_in, entry, standard_of, ordinary_in}
 use Rattle.figuring.specs.Tables.{is_standard, entry_fits, fits_at, row_fits, row_before, row_good, accepted_table}
 use Rattle.figuring.specs.Tables.{Allowed, Falls, zero_none, CardTables}
-use Rattle.figuring.specs.declared.standards.Standard.TheVariants.{Given, Absent}
+use Rattle.std.proofs.Common.{Some, None}
 use Rattle.figuring.proofs.BoolLaws.{both, and_intro}
 use Rattle.figuring.proofs.BelowLaws.{all_at, all_of}
 use Rattle.figuring.proofs.PartLaws.{part_bound}
@@ -26,28 +26,28 @@ use Rattle.figuring.proofs.StandardLaws.{in_range, in_either, is_standard_lem, r
 use Rattle.figuring.proofs.GridLaws.{no_column, standard_read}
 
 -- ---- where a table has a standard
-pub read_in_lem :
+read_in_lem :
     (t : Table) (s u y : ℕ) {i j : ℕ} → first_year ≤ y → j < grid_columns → i ≡ row_of y → j ≡ column_of s u
     → standard_of (entry t i j) ≡ ordinary_in t s u y
 unfolding ordinary_in
 read_in_lem t s u y {i} {j} l h p q = rw (le-leb first_year y l, ← q, ← p, lt-ltb j grid_columns h)
 
-pub none_early : (t : Table) (s u y : ℕ) → y < first_year → ordinary_in t s u y ≡ Absent
+none_early : (t : Table) (s u y : ℕ) → y < first_year → ordinary_in t s u y ≡ None
 unfolding ordinary_in
 none_early t s u y h = rw (lt-leb first_year y h)
 
-pub none_in : (t : Table) (s u y : ℕ) {j : ℕ} → grid_columns ≤ j → j ≡ column_of s u → ordinary_in t s u y ≡ Absent
+none_in : (t : Table) (s u y : ℕ) {j : ℕ} → grid_columns ≤ j → j ≡ column_of s u → ordinary_in t s u y ≡ None
 unfolding ordinary_in
 none_in t s u y {j} h q = rw (← q, le-ltb j grid_columns h, and-false (leb first_year y))
 
 -- a use above 1 has no column, nor a set above 3, nor a tractor of sets 0 and 1
 module _ (t : Table) where
-  no_use : (s u y : ℕ) → 1 < u → ordinary_in t s u y ≡ Absent
+  no_use : (s u y : ℕ) → 1 < u → ordinary_in t s u y ≡ None
   unfolding column_of
   no_use s u y h =
       none_in t s u y {j = grid_columns} (omega arith) (rw (ne_eqb u 0 (λ z. omega arith), ne_eqb u 1 (λ z. omega arith)))
 
-  no_set : (s u y : ℕ) → 3 < s → ordinary_in t s u y ≡ Absent
+  no_set : (s u y : ℕ) → 3 < s → ordinary_in t s u y ≡ None
   unfolding column_of
   no_set s u y h =
       none_in t s u y {j = grid_columns} (omega arith)
@@ -58,13 +58,12 @@ module _ (t : Table) where
       same true e = refl
       same false e = e
 
-  no_tractor : (s y : ℕ) → s < 2 → ordinary_in t s 1 y ≡ Absent
+  no_tractor : (s y : ℕ) → s < 2 → ordinary_in t s 1 y ≡ None
   unfolding column_of
   no_tractor s y h =
       none_in t s 1 y {j = grid_columns} (omega arith) (rw (ne_eqb s 2 (λ z. omega arith), ne_eqb s 3 (λ z. omega arith)))
 
   pub use_known : (s u y : ℕ) → is_absent (ordinary_in t s u y) ≡ false → u < 2
-  unfolding is_absent
   use_known s u y h = go (dec_lt u 2)
     where
       go : Dec (u < 2) → u < 2
@@ -77,14 +76,14 @@ module _ (t : Table) where
   later s u y h =
       let r : row_of y ≡ row_of last_year = omega arith in
       rw (le-leb first_year y (omega arith))
-      (ap (λ (i : ℕ). cond (ltb (column_of s u) grid_columns) (standard_of (entry t i (column_of s u))) Absent) r)
+      (ap (λ (i : ℕ). cond (ltb (column_of s u) grid_columns) (standard_of (entry t i (column_of s u))) None) r)
 
 -- ---- every standard of a table, accepted or not, is within the limits
 entry_in_range : (n : ℕ) → in_range (standard_of n) ≡ true
 unfolding standard_of
 entry_in_range n = go (is_standard n) refl
   where
-    go : (b : Bool) → is_standard n ≡ b → in_range (cond b (Given n) Absent) ≡ true
+    go : (b : Bool) → is_standard n ≡ b → in_range (cond b (Some n) None) ≡ true
     go true e = e
     go false e = refl
 
@@ -198,7 +197,7 @@ module _ (t : Table) (a : accepted_table t ≡ true) (i : ℕ) (hi : i < grid_ye
 -- ---- the built-in table: all its rows, computed
 pub built_in_accepted : accepted_table built_in ≡ true
 unfolding accepted_table all_below row_good row_fits fits_at entry_fits is_standard between row_before
-    printed_grid grid_from grid_row standard_for vocational tractor spark printed_for grams_of
+    printed_grid grid_from grid_row standard_for vocational tractor spark printed_for
 built_in_accepted = refl
 
 -- and its standards are the printed ones

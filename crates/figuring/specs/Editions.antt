@@ -1,10 +1,8 @@
 -- Card 5, "Alternative standards, two editions": the alternative standards of 1036.150(p)(2), beside the ordinary ones.
 -- An edition: "0 ordinary, 1 the earlier table, 2 the later".
-use Rattle.std.specs.Prelude.{ℕ, ◌≤◌, ◌<◌, Bool, false, ◌&&◌, ◌||◌, not, cond, List, [], ◌∷◌, ◌≡◌, ltb, eqb, get_or}
-use Rattle.figuring.specs.Standards.{◌through◌, is_absent}
+use Rattle.std.specs.Prelude.{ℕ, ◌≤◌, ◌<◌, Bool, false, ◌&&◌, ◌||◌, not, cond, List, [], ◌∷◌, ◌≡◌, ltb, eqb, get_or, Some, None}
+use Rattle.figuring.specs.Standards.{Standard, ◌through◌, is_absent}
 use Rattle.figuring.specs.Tables.{Table, ordinary_in}
-use Rattle.figuring.specs.declared.standards.Standard.{Standard}
-use Rattle.figuring.specs.declared.standards.Standard.TheVariants.{Given, Absent}
 
 -- The two tables as printed, "in the order medium vocational, heavy vocational, medium tractor, heavy tractor".
 abbrev pub earlier_table : List ℕ
@@ -23,15 +21,15 @@ alternative_years y = (2024 through 2026) y
 -- The standard in such a table for a set and a use; none where it has no column for them.
 unfoldable pub in_table : List ℕ → ℕ → ℕ → Standard
 in_table table s u =
-    cond (eqb u 0) (cond (eqb s 2) (Given (get_or table 0 0)) (cond (eqb s 3) (Given (get_or table 1 0)) Absent))
-    (cond (eqb u 1) (cond (eqb s 2) (Given (get_or table 2 0)) (cond (eqb s 3) (Given (get_or table 3 0)) Absent)) Absent)
+    cond (eqb u 0) (cond (eqb s 2) (Some (get_or table 0 0)) (cond (eqb s 3) (Some (get_or table 1 0)) None))
+    (cond (eqb u 1) (cond (eqb s 2) (Some (get_or table 2 0)) (cond (eqb s 3) (Some (get_or table 3 0)) None)) None)
 
 -- The alternative standard of an edition from 1 on.
 unfoldable pub alternative_for : ℕ → ℕ → ℕ → ℕ → Standard
 alternative_for edition s u y =
     cond (alternative_years y)
-    (cond (eqb edition 1) (in_table earlier_table s u) (cond (eqb edition 2) (in_table later_table s u) Absent))
-    Absent
+    (cond (eqb edition 1) (in_table earlier_table s u) (cond (eqb edition 2) (in_table later_table s u) None))
+    None
 
 -- The standard that a family names: for an edition, a set, a use and a year, beside the ordinary one of these. Card 7:
 -- "edition 0 then means this table", and "Editions 1 and 2 keep their figures".
@@ -47,7 +45,7 @@ no_edition edition s y =
 
 -- a standard in 2024 to 2026, and none in any other year
 abbrev pub in2024to2026 : ℕ → ℕ → Standard
-in2024to2026 g y = cond ((2024 through 2026) y) (Given g) Absent
+in2024to2026 g y = cond ((2024 through 2026) y) (Some g) None
 
 pub record CardEditions : Type 0 where
   -- "0 ordinary", which 17 never concerns
@@ -65,12 +63,12 @@ pub record CardEditions : Type 0 where
       × (standard_under x 2 2 1 y ≡ in2024to2026 467 y)
       × (standard_under x 2 3 1 y ≡ in2024to2026 442 y)
   -- no other edition has a standard, and these have none for another set or use
-  pub no_other : (x : Standard) (edition s u y : ℕ) → 2 < edition → standard_under x edition s u y ≡ Absent
+  pub no_other : (x : Standard) (edition s u y : ℕ) → 2 < edition → standard_under x edition s u y ≡ None
   pub no_other_set :
       (x : Standard) (edition s u y : ℕ) → 0 < edition → (2 through 3) s ≡ false
-      → standard_under x edition s u y ≡ Absent
+      → standard_under x edition s u y ≡ None
   pub no_other_use :
-      (x : Standard) (edition s u y : ℕ) → 0 < edition → 1 < u → standard_under x edition s u y ≡ Absent
+      (x : Standard) (edition s u y : ℕ) → 0 < edition → 1 < u → standard_under x edition s u y ≡ None
   -- 17, which is "checked after 6": where a table has an ordinary standard, it is exactly that the edition has none
   pub seventeen :
       (t : Table) (edition s u y : ℕ) → is_absent (ordinary_in t s u y) ≡ false
@@ -78,4 +76,4 @@ pub record CardEditions : Type 0 where
   -- every standard, of whatever table and under whatever edition, is 432 to 769
   pub range :
       (t : Table) (edition s u y : ℕ) {g : ℕ}
-      → standard_under (ordinary_in t s u y) edition s u y ≡ Given g → (432 ≤ g) × (g ≤ 769)
+      → standard_under (ordinary_in t s u y) edition s u y ≡ Some g → (432 ≤ g) × (g ≤ 769)

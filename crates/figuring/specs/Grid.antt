@@ -1,7 +1,7 @@
 -- Card 2: the standards read from "a grid of 24 years by 6 columns", 0 for none.
 -- `printed_grid` is what the grid in the source is promised to be. Card 7 takes it as the built-in table, and reads any
 -- table by these rows and columns (Tables).
-use Rattle.std.specs.Prelude.{ℕ, zero, suc, ◌-◌, min, cond, List, [], ◌∷◌, eqb}
+use Rattle.std.specs.Prelude.{ℕ, zero, suc, ◌-◌, min, cond, List, [], ◌∷◌, eqb, ltb, Option, Some, None}
 use Rattle.figuring.specs.Standards.{standard_for, grams_of}
 use Rattle.figuring.specs.Years.{first_year, last_year}
 
@@ -45,3 +45,7 @@ column_of s u =
     cond (eqb u 0)
     (cond (eqb s 0) 0 (cond (eqb s 1) 1 (cond (eqb s 2) 2 (cond (eqb s 3) 3 grid_columns))))
     (cond (eqb u 1) (cond (eqb s 2) 4 (cond (eqb s 3) 5 grid_columns)) grid_columns)
+
+-- A column as the code answers it: none past the last.
+abbrev pub in_grid : ℕ → Option ℕ
+in_grid j = cond (ltb j grid_columns) (Some j) None

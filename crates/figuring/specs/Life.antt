@@ -1,10 +1,14 @@
 -- Document 01: how long a lot is live and a shortage open. Y is the open year.
-use Rattle.std.specs.Prelude.{ℕ, ◌+◌, Bool, ◌&&◌, ltb, leb}
+use Rattle.std.specs.Prelude.{ℕ, ◌+◌, ◌-◌, Bool, ◌&&◌, cond, ltb, leb, Option, Some, None}
 use Rattle.figuring.specs.Years.{first_year}
 
 -- a year that is closed: "2014 to Y - 1"
 unfoldable pub closed_year : ℕ → ℕ → Bool
 closed_year Y y = leb first_year y && ltb y Y
+
+-- how many years ago a closed year is, which the code compares; a year that is not closed has none
+unfoldable pub age : ℕ → ℕ → Option ℕ
+age Y y = cond (closed_year Y y) (Some (Y - y)) None
 
 -- "A lot of vintage v, 2014 to Y - 1, is live while Y is at most v + 6, then expired."
 unfoldable pub live : ℕ → ℕ → Bool

@@ -1,14 +1,12 @@
 -- Card 7, "The customer's own standards": the tables that are accepted, and the ordinary standard that a table has.
 -- A table is "an array of rows", 24 of 6 figures, a row a year from 2014 on; the columns are those of the grid of card 2.
 -- Any figures make a table: which of them are accepted is said here.
-use Rattle.std.specs.Prelude.{ℕ, zero, suc, ◌+◌, ◌*◌, ◌<◌, ◌≤◌, Bool, true, cond, ◌&&◌, ◌||◌, ◌⊎◌, List, [], ◌≡◌, leb, ltb, eqb, get_or, replicate, nat_abs}
+use Rattle.std.specs.Prelude.{ℕ, zero, suc, ◌+◌, ◌*◌, ◌<◌, ◌≤◌, Bool, true, cond, ◌&&◌, ◌||◌, ◌⊎◌, List, [], ◌≡◌, leb, ltb, eqb, get_or, replicate, nat_abs, Some, None}
 use Rattle.figuring.specs.Below.{all_below}
 use Rattle.figuring.specs.Years.{first_year}
 use Rattle.figuring.specs.Parts.{between, standard_least, standard_most, part_of, within_limits, cf_most, volume_most, life_most}
-use Rattle.figuring.specs.Standards.{standard_for}
+use Rattle.figuring.specs.Standards.{Standard, standard_for}
 use Rattle.figuring.specs.Grid.{Grid, grid_years, grid_columns, row_of, column_of, printed_grid}
-use Rattle.figuring.specs.declared.standards.Standard.{Standard}
-use Rattle.figuring.specs.declared.standards.Standard.TheVariants.{Given, Absent}
 
 abbrev pub Table : Type 0
 Table = Grid
@@ -58,13 +56,13 @@ accepted_table t = all_below grid_years (row_good t)
 -- The standard that an entry is; 0 is none. An entry that may not stand in a table is none either: a call that is handed
 -- one gets 20 before any standard is read.
 unfoldable pub standard_of : ℕ → Standard
-standard_of n = cond (is_standard n) (Given n) Absent
+standard_of n = cond (is_standard n) (Some n) None
 
 -- The ordinary standard for a set, a use and a year: "edition 0 then means this table". Every later year is read in the
 -- last row, as in the grid.
 unfoldable pub ordinary_in : Table → ℕ → ℕ → ℕ → Standard
 ordinary_in t s u y =
-    cond (leb first_year y && ltb (column_of s u) grid_columns) (standard_of (entry t (row_of y) (column_of s u))) Absent
+    cond (leb first_year y && ltb (column_of s u) grid_columns) (standard_of (entry t (row_of y) (column_of s u))) None
 
 -- ---- the card's words, of every table
 
@@ -78,7 +76,7 @@ Falls t i j = (entry t i j ≡ 0) ⊎ (entry t (suc i) j ≤ entry t i j)
 
 -- an accepted entry as a standard: "0 (none)"
 abbrev pub zero_none : ℕ → Standard
-zero_none n = cond (eqb n 0) Absent (Given n)
+zero_none n = cond (eqb n 0) None (Some n)
 
 pub record CardTables : Type 0 where
   -- accepted is what keeps the limits and does not rise, and nothing else
@@ -98,10 +96,10 @@ pub record CardTables : Type 0 where
       × (ordinary_in t 2 1 (2014 + i) ≡ zero_none (entry t i 4))
       × (ordinary_in t 3 1 (2014 + i) ≡ zero_none (entry t i 5))
   -- no other set and use has one, nor an earlier year; a later year has that of 2037
-  pub no_tractor : (t : Table) (s y : ℕ) → s < 2 → ordinary_in t s 1 y ≡ Absent
-  pub no_set : (t : Table) (s u y : ℕ) → 3 < s → ordinary_in t s u y ≡ Absent
-  pub no_use : (t : Table) (s u y : ℕ) → 1 < u → ordinary_in t s u y ≡ Absent
-  pub no_year : (t : Table) (s u y : ℕ) → y < 2014 → ordinary_in t s u y ≡ Absent
+  pub no_tractor : (t : Table) (s y : ℕ) → s < 2 → ordinary_in t s 1 y ≡ None
+  pub no_set : (t : Table) (s u y : ℕ) → 3 < s → ordinary_in t s u y ≡ None
+  pub no_use : (t : Table) (s u y : ℕ) → 1 < u → ordinary_in t s u y ≡ None
+  pub no_year : (t : Table) (s u y : ℕ) → y < 2014 → ordinary_in t s u y ≡ None
   pub later : (t : Table) (s u y : ℕ) → 2037 ≤ y → ordinary_in t s u y ≡ ordinary_in t s u 2037
   -- "the built-in one being one of them", and its standards are the printed ones
   pub built_in_accepted : accepted_table built_in ≡ true
@@ -109,5 +107,5 @@ pub record CardTables : Type 0 where
   -- a part under a standard of whatever table is within ±3.84 × 10^16: 768 × the limits
   pub bound :
       (t : Table) (s u y fcl cf volume life : ℕ) {g : ℕ}
-      → ordinary_in t s u y ≡ Given g → within_limits fcl cf volume life ≡ true
+      → ordinary_in t s u y ≡ Some g → within_limits fcl cf volume life ≡ true
       → nat_abs (part_of g fcl cf volume life) ≤ 768 * (cf_most * volume_most * life_most)

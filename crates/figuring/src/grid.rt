@@ -1,6 +1,6 @@
 // Card 2: the standards as the service desk reads them, off a grid.
 ghost use Rattle.std.specs.Prelude.{◌≡◌, ◌≤◌, ◌<◌};
-ghost use Rattle.figuring.specs.Grid.{grid_years, printed_grid, row_of, column_of};
+ghost use Rattle.figuring.specs.Grid.{grid_years, printed_grid, row_of, column_of, in_grid};
 ghost use Rattle.figuring.specs.Years.{first_year};
 
 use crate::tables::Table;
@@ -53,29 +53,21 @@ pub(crate) fn row_of(year: u64) -> usize
     requires { first_year ≤ year }
     ensures { (result ≡ row_of year) × (result < grid_years) }
 {
-    if year > LAST_YEAR {
-        return (LAST_YEAR - FIRST_YEAR) as usize;
-    }
-    (year - FIRST_YEAR) as usize
+    (year.min(LAST_YEAR) - FIRST_YEAR) as usize
 }
 
-// The column of a set and a use; past the last where there is none.
-pub(crate) fn column_of(set: u64, vehicle_use: u64) -> usize
-    ensures { result ≡ column_of set vehicle_use }
+// The column of a set and a use, where there is one.
+#[tactic(auto, unfolding(crate::specs::Grid::column_of))]
+pub(crate) fn column_of(set: u64, vehicle_use: u64) -> Option<usize>
+    ensures { result ≡ in_grid (column_of set vehicle_use) }
 {
-    match vehicle_use {
-        0 => match set {
-            0 => 0,
-            1 => 1,
-            2 => 2,
-            3 => 3,
-            _ => COLUMNS,
-        },
-        1 => match set {
-            2 => 4,
-            3 => 5,
-            _ => COLUMNS,
-        },
-        _ => COLUMNS,
+    match (vehicle_use, set) {
+        (0, 0) => Some(0),
+        (0, 1) => Some(1),
+        (0, 2) => Some(2),
+        (0, 3) => Some(3),
+        (1, 2) => Some(4),
+        (1, 3) => Some(5),
+        _ => None,
     }
 }

@@ -1,6 +1,8 @@
 // Live, expired, open, overdue: for any two years, with no sum that could wrap.
+#![tactic(auto, unfolding(crate::specs::Life::closed_year, crate::specs::Life::age, crate::specs::Life::live, crate::specs::Life::expired, crate::specs::Life::open_short, crate::specs::Life::overdue))]
+
 ghost use Rattle.std.specs.Prelude.{◌≡◌};
-ghost use Rattle.figuring.specs.Life.{live, expired, open_short, overdue, closed_year};
+ghost use Rattle.figuring.specs.Life.{live, expired, open_short, overdue, age};
 
 use crate::years::FIRST_YEAR;
 
@@ -13,44 +15,32 @@ const SHORTAGE_LIFE: u64 = 4;
 pub fn is_live(open_year: u64, vintage: u64) -> bool
     ensures { result ≡ live open_year vintage }
 {
-    if !is_closed_year(open_year, vintage) {
-        return false;
-    }
-    open_year - vintage <= LOT_LIFE
+    age(open_year, vintage).is_some_and(|years| years <= LOT_LIFE)
 }
 
 pub fn is_expired(open_year: u64, vintage: u64) -> bool
     ensures { result ≡ expired open_year vintage }
 {
-    if !is_closed_year(open_year, vintage) {
-        return false;
-    }
-    open_year - vintage > LOT_LIFE
+    age(open_year, vintage).is_some_and(|years| years > LOT_LIFE)
 }
 
 pub fn is_open(open_year: u64, year: u64) -> bool
     ensures { result ≡ open_short open_year year }
 {
-    if !is_closed_year(open_year, year) {
-        return false;
-    }
-    open_year - year <= SHORTAGE_LIFE
+    age(open_year, year).is_some_and(|years| years <= SHORTAGE_LIFE)
 }
 
 pub fn is_overdue(open_year: u64, year: u64) -> bool
     ensures { result ≡ overdue open_year year }
 {
-    if !is_closed_year(open_year, year) {
-        return false;
-    }
-    open_year - year > SHORTAGE_LIFE
+    age(open_year, year).is_some_and(|years| years > SHORTAGE_LIFE)
 }
 
-fn is_closed_year(open_year: u64, year: u64) -> bool
-    ensures { result ≡ closed_year open_year year }
+// How many years ago a closed year is; a year that is not closed has no age.
+fn age(open_year: u64, year: u64) -> Option<u64>
+    ensures { result ≡ age open_year year }
 {
-    if year < FIRST_YEAR {
-        return false;
-    }
-    year < open_year
+    (FIRST_YEAR..open_year)
+        .contains(&year)
+        .then(|| open_year - year)
 }

@@ -1,6 +1,6 @@
 // Card 7: the tables of standards that are accepted.
 ghost use Rattle.std.specs.Prelude.{◌≡◌};
-ghost use Rattle.figuring.specs.Tables.{accepted_table, entry_fits, row_fits};
+ghost use Rattle.figuring.specs.Tables.{accepted_table, entry_fits, is_standard, row_fits};
 
 use crate::grid::{COLUMNS, YEARS};
 
@@ -12,19 +12,17 @@ pub const STANDARD_LEAST: u64 = 432;
 
 pub const STANDARD_MOST: u64 = 769;
 
-// Whether any table is within the limits and does not rise: each row is held against the one before.
+// Whether any table is within the limits and does not rise: each row is held against the one before, and
+// the first against none, which no chain says in fewer words.
 pub fn table_accepted(table: Table) -> bool
     ensures { result ≡ accepted_table table }
 {
-    let mut before = [0u64; COLUMNS];
-    let mut i: usize = 0;
-    while i < YEARS {
-        let row = table[i];
+    let mut before = [0; COLUMNS];
+    for row in table {
         if !row_fits(before, row) {
             return false;
         }
         before = row;
-        i += 1;
     }
     true
 }
@@ -33,31 +31,24 @@ pub fn table_accepted(table: Table) -> bool
 pub fn row_fits(before: [u64; COLUMNS], row: [u64; COLUMNS]) -> bool
     ensures { result ≡ row_fits before row }
 {
-    let mut j: usize = 0;
-    while j < COLUMNS {
-        if !entry_fits(before[j], row[j]) {
-            return false;
-        }
-        j += 1;
-    }
-    true
+    before
+        .iter()
+        .zip(&row)
+        .all(|(b, entry)| entry_fits(*b, *entry))
 }
 
 // Whether an entry may follow the one of the year before: 0, or within the limits and no rise but from 0.
+#[tactic(auto, unfolding(crate::specs::Tables::entry_fits))]
 fn entry_fits(before: u64, entry: u64) -> bool
     ensures { result ≡ entry_fits before entry }
 {
-    if entry == 0 {
-        return true;
-    }
-    if entry < STANDARD_LEAST {
-        return false;
-    }
-    if entry > STANDARD_MOST {
-        return false;
-    }
-    if before == 0 {
-        return true;
-    }
-    entry <= before
+    (entry == 0 || is_standard(entry)) && (before == 0 || entry <= before)
+}
+
+// Whether an entry is within the limits of a standard.
+#[tactic(auto, unfolding(crate::specs::Tables::is_standard, crate::specs::Parts::between))]
+pub(crate) fn is_standard(entry: u64) -> bool
+    ensures { result ≡ is_standard entry }
+{
+    (STANDARD_LEAST..=STANDARD_MOST).contains(&entry)
 }

@@ -12,28 +12,26 @@ use Rattle.book.specs.Rules.{Request, handed, posted_to}
 use Rattle.book.specs.Demand3.{is_accepted}
 use Rattle.book.specs.Companions.{keep_if, accepted_only}
 use Rattle.book.specs.declared.ledger.Book.{Book}
+use Rattle.book.specs.declared.kinds.Call.{Call}
 use Rattle.book.proofs.RefusalLaws.{demand1}
-use Rattle.text.specs.declared.lines.Line.{Line}
+use Rattle.std.specs.Prelude.{Option, Some, None}
+use Rattle.std.specs.List.{cons_option}
 use Rattle.text.specs.Line.{line_of}
 use Rattle.text.specs.Desk.{line_feed}
 use Rattle.text.specs.Lines.{lines_from, lines_of, OneLine}
 use Rattle.text.specs.Rendered.{rendered}
 use Rattle.text.proofs.FormLaws.{reads}
 use Rattle.text.proofs.SessionLaws.{lines}
-use Rattle.shown.specs.Calls.{call_in, calls_of, requests, answers_of, in_turn}
+use Rattle.shown.specs.Calls.{calls_of, requests, answers_of, in_turn}
 use Rattle.shown.specs.Journal.{journal_of}
 use Rattle.shown.specs.Shown.{Every, Accepts}
 
 -- ---- no line has a line feed in it
-abbrev AllOneLine : List (List ℕ) → Type 0
-AllOneLine [] = Unit {0}
-AllOneLine (l ∷ ls) = OneLine l × AllOneLine ls
-
 one_more : (l : List ℕ) (x : ℕ) → OneLine l → (x ≡ line_feed → ⊥) → OneLine (l ++ (x ∷ []))
 one_more [] x h n = (n, tt)
 one_more (y ∷ l) x h n = (h.0, one_more l x h.1 n)
 
-one_lines : (l s : List ℕ) → OneLine l → AllOneLine (lines_from l s)
+one_lines : (l s : List ℕ) → OneLine l → Every OneLine (lines_from l s)
 unfolding lines_from
 one_lines [] [] h = tt
 one_lines (x ∷ l) [] h = (h, tt)
@@ -41,31 +39,29 @@ one_lines l (x ∷ s) h =
     go (eqb x line_feed) refl (one_lines [] s tt) (λ n. one_lines (l ++ (x ∷ [])) s (one_more l x h n))
   where
     go :
-        (e : Bool) → eqb x line_feed ≡ e → AllOneLine (lines_from [] s)
-        → ((x ≡ line_feed → ⊥) → AllOneLine (lines_from (l ++ (x ∷ [])) s))
-        → AllOneLine (cond e (l ∷ lines_from [] s) (lines_from (l ++ (x ∷ [])) s))
+        (e : Bool) → eqb x line_feed ≡ e → Every OneLine (lines_from [] s)
+        → ((x ≡ line_feed → ⊥) → Every OneLine (lines_from (l ++ (x ∷ [])) s))
+        → Every OneLine (cond e (l ∷ lines_from [] s) (lines_from (l ++ (x ∷ [])) s))
     go true e p q = (h, p)
     go false e p q = q (eqb-false x line_feed e)
 
 -- ---- calls that were read from lines, with the table t: each is read again from its own text
 pub record Line·of (t : Table) (r : Request) : Type 0 where
-  pub reads_as : line_of (rendered r.call) ≡ Line.Form r.call
+  pub reads_as : line_of (rendered r.call) ≡ Some r.call
   pub one : OneLine (rendered r.call)
   pub hands : handed t r.call ≡ r
 
 abbrev pub Written : Table → List Request → Type 0
-Written t [] = Unit {0}
-Written t (r ∷ rs) = Line·of t r × Written t rs
+Written t rs = Every (Line·of t) rs
 
-written_lines : (t : Table) (ls : List (List ℕ)) → AllOneLine ls → Written t (requests t (calls_of ls))
-unfolding calls_of
+written_lines : (t : Table) (ls : List (List ℕ)) → Every OneLine ls → Written t (requests t (calls_of ls))
 written_lines t [] h = tt
 written_lines t (l ∷ ls) h = go (line_of l) refl (written_lines t ls h.1)
   where
     go :
-        (r : Line) → line_of l ≡ r → Written t (requests t (calls_of ls)) → Written t (requests t (call_in r ++ calls_of ls))
-    go Line.NoForm e w = w
-    go (Line.Form c) e w =
+        (r : Option Call) → line_of l ≡ r → Written t (requests t (calls_of ls)) → Written t (requests t (cons_option r (calls_of ls)))
+    go None e w = w
+    go (Some c) e w =
         let d : l ≡ rendered c = (reads.only l c e).text in
         (record { reads_as = ap line_of (sym d) ∙ e; one = subst OneLine d h.0; hands = refl }, w)
 
@@ -95,7 +91,6 @@ journal_lines t (r ∷ rs) w =
     ∙ ap (λ (ls : List (List ℕ)). line_for r ∷ ls) (journal_lines t rs w.1)
 
 texts_read : (t : Table) (rs : List Request) → Written t rs → requests t (calls_of (map line_for rs)) ≡ rs
-unfolding calls_of
 texts_read t [] w = refl
 texts_read t (r ∷ rs) w = rw w.0.reads_as (ap₂ ◌∷◌ w.0.hands (texts_read t rs w.1))
 

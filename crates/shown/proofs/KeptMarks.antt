@@ -3,6 +3,7 @@
 use mathlib.Core.Bool.{true}
 use mathlib.Core.List.{List, [], ◌∷◌}
 use mathlib.Core.Path.{◌≡◌}
+use Rattle.std.specs.Prelude.{Ok}
 use Rattle.figuring.specs.Tables.{Table}
 use Rattle.figuring.specs.Years.{first_year}
 use Rattle.book.specs.Soundness.{sound}
@@ -13,7 +14,6 @@ use Rattle.book.specs.Companions.{Sized}
 use Rattle.book.specs.Demand3.{book_after}
 use Rattle.book.specs.declared.ledger.Book.{Book}
 use Rattle.book.specs.declared.kinds.Call.{Call}
-use Rattle.book.specs.declared.answers.Verdict.TheVariants.{Accepted}
 use Rattle.book.proofs.TableLaws.{by_verdict}
 use Rattle.book.proofs.FileFacts.{fileable}
 use Rattle.book.proofs.SoundnessLaws.{sound_is}
@@ -30,7 +30,7 @@ sound_neat b z w s =
     record { sized = z; bits = w; unmarked = v.unmarked }
 
 done_marks :
-    (t : Table) (b : Book) (c : Call) → Sized b → Marks64 b → sound b ≡ true → first_refusal (own_rows t b c) ≡ Accepted
+    (t : Table) (b : Book) (c : Call) → Sized b → Marks64 b → sound b ≡ true → first_refusal (own_rows t b c) ≡ Ok tt
     → Marks64 (done t b c).book
 unfolding own_rows done enter empty_at close_done trade_done application_done retirement_done
 done_marks t b (Call.File f) z w s e =

@@ -5,21 +5,24 @@ use mathlib.Core.List.{List, [], ◌∷◌, ◌++◌, append_assoc}
 use mathlib.Core.Path.{◌≡◌, refl, sym, ◌∙◌, ap, ap₂}
 use lib.Dec.{eqb}
 use Rattle.figuring.specs.Tables.{Table}
+use Rattle.book.specs.Refusals.{Answered}
 use Rattle.book.specs.Rules.{Request, handed, posted, posted_to}
 use Rattle.book.specs.Demand3 as D
 use Rattle.book.specs.Demand3.{is_accepted}
 use Rattle.book.specs.Companions.{keep_if, accepted_only}
 use Rattle.book.specs.declared.ledger.Book.{Book}
 use Rattle.book.specs.declared.kinds.Call.{Call}
-use Rattle.book.specs.declared.answers.Answer.{Answer}
-use Rattle.text.specs.declared.lines.Line.{Line}
+use Rattle.std.specs.Prelude.{Option, Some, None}
+use Rattle.std.specs.List.{cons_option}
+use Rattle.std.proofs.lemmas.List.{map-append}
+use Rattle.std.proofs.lemmas.List.Elements.{filter_map-append}
 use Rattle.text.specs.Line.{line_of}
 use Rattle.text.specs.Answers.{text_of, answer_to, posted_line}
 use Rattle.text.specs.Desk.{line_feed}
 use Rattle.text.specs.Lines.{lines_from, lines_of, book_after_lines}
 use Rattle.text.specs.Listing.{listing}
 use Rattle.text.specs.Program.{terminal}
-use Rattle.shown.specs.Calls.{call_in, calls_of, requests, answers_of, dealt, in_turn, texts}
+use Rattle.shown.specs.Calls.{calls_of, requests, answers_of, dealt, in_turn, texts}
 use Rattle.shown.specs.Calls.{calls, answers, postings, final_book}
 use Rattle.shown.specs.Moving.{MovesOn}
 use Rattle.shown.proofs.ShownLaws.{by_calls, demands, on_screen}
@@ -58,41 +61,31 @@ lines_answers :
     → in_turn (ls ++ ms) (answers_of b (requests t (calls_of (ls ++ ms))))
     ≡ in_turn ls (answers_of b (requests t (calls_of ls)))
     ++ in_turn ms (answers_of (book_after_lines t b ls) (requests t (calls_of ms)))
-unfolding book_after_lines calls_of answer_to answers_of in_turn
+unfolding book_after_lines answer_to answers_of in_turn
 lines_answers t b [] ms = refl
 lines_answers t b (l ∷ ls) ms = go (line_of l) (λ c. lines_answers t c ls ms)
   where
     go :
-        (r : Line)
+        (r : Option Call)
         → ((c : Book) → in_turn (ls ++ ms) (answers_of c (requests t (calls_of (ls ++ ms)))) ≡ in_turn ls (answers_of c (requests t (calls_of ls))) ++ in_turn ms (answers_of (book_after_lines t c ls) (requests t (calls_of ms))))
-        → dealt r (answers_of b (requests t (call_in r ++ calls_of (ls ++ ms)))) (in_turn (ls ++ ms))
-        ≡ dealt r (answers_of b (requests t (call_in r ++ calls_of ls))) (in_turn ls)
+        → dealt r (answers_of b (requests t (cons_option r (calls_of (ls ++ ms))))) (in_turn (ls ++ ms))
+        ≡ dealt r (answers_of b (requests t (cons_option r (calls_of ls)))) (in_turn ls)
         ++ in_turn ms (answers_of (book_after_lines t (posted_line t b r).book ls) (requests t (calls_of ms)))
-    go Line.NoForm ih = rw (ih b)
-    go (Line.Form c) ih = rw (ih (posted t b c).book)
+    go None ih = rw (ih b)
+    go (Some c) ih = rw (ih (posted t b c).book)
 
-texts_append : (xs ys : List Answer) → texts (xs ++ ys) ≡ texts xs ++ texts ys
+texts_append : (xs ys : List Answered) → texts (xs ++ ys) ≡ texts xs ++ texts ys
 unfolding texts
 texts_append [] ys = refl
 texts_append (a ∷ xs) ys =
     ap (λ (l : List ℕ). text_of a ++ l) (texts_append xs ys) ∙ sym (append_assoc (text_of a) (texts xs) (texts ys))
 
 -- ---- postings
-requests_append :
-    (t : Table) (cs ds : List Call) → requests t (cs ++ ds) ≡ requests t cs ++ requests t ds
-requests_append t [] ds = refl
-requests_append t (c ∷ cs) ds = ap (λ (rs : List Request). handed t c ∷ rs) (requests_append t cs ds)
-
 lines_calls :
     (t : Table) (ls ms : List (List ℕ))
     → requests t (calls_of (ls ++ ms)) ≡ requests t (calls_of ls) ++ requests t (calls_of ms)
-unfolding calls_of
-lines_calls t [] ms = refl
-lines_calls t (l ∷ ls) ms =
-    requests_append t (call_in (line_of l)) (calls_of (ls ++ ms))
-    ∙ ap (λ (rs : List Request). requests t (call_in (line_of l)) ++ rs) (lines_calls t ls ms)
-    ∙ sym (append_assoc (requests t (call_in (line_of l))) (requests t (calls_of ls)) (requests t (calls_of ms)))
-    ∙ ap (λ (rs : List Request). rs ++ requests t (calls_of ms)) (sym (requests_append t (call_in (line_of l)) (calls_of ls)))
+lines_calls t ls ms =
+    ap (requests t) (filter_map-append line_of ls ms) ∙ map-append (handed t) (calls_of ls) (calls_of ms)
 
 accepted_append :
     (b : Book) (xs ys : List Request)

@@ -6,6 +6,7 @@ use mathlib.Core.List.{List, [], ◌∷◌, ◌++◌}
 use mathlib.Core.Logic.{◌↔◌}
 use mathlib.Core.Path.{◌≡◌, sym, ◌∙◌, ap, ap₂, subst}
 use lib.ListN.{take}
+use Rattle.std.specs.Prelude.{Ok}
 use Rattle.figuring.specs.Tables.{Table}
 use Rattle.book.specs.Ledger.{Key, In}
 use Rattle.book.specs.Soundness.{sound}
@@ -50,7 +51,7 @@ accounts_are b rs = accounts_same (begun_with (opening_of b)) b rs
 -- the Mg of an answer
 left_says :
     (b : Book) → Sized b → (before : List Request) (r : Request) (n : ℕ)
-    → answer_after b before r ≡ Answer.Left (record { 0 = n })
+    → answer_after b before r ≡ Ok (Answer.Left (record { 0 = n }))
     → Leaves (accounts_by (opening_of b) (accepted_only b (before ++ r ∷ []))) r.call n
 unfolding D.book_after
 left_says b z before r n e =

@@ -2,18 +2,19 @@
 use Prim.Native.Nat.{ℕ, zero, suc, ◌+◌, ◌≤◌, ◌<◌}
 use native.Mathlib.Decide.{dec_le}
 use native.Mathlib.Omega.{arith}
-use mathlib.Core.Bool.{Bool, true, false, ◌&&◌}
+use mathlib.Core.Bool.{Bool, true, false, cond, ◌&&◌}
 use mathlib.Core.List.{List, [], ◌∷◌, ◌++◌, map, append_assoc}
 use mathlib.Core.Path.{◌≡◌, refl, sym, ◌∙◌, ap, ap₂}
 use borrow.Author.Tests.{lt-ltb, le-leb, lt-leb}
 use lib.Dec.{ltb, eqb}
 use lib.ListN.{get_or, drop}
+use Rattle.std.specs.Prelude.{Option, Some, None}
 use Rattle.figuring.specs.Years.{first_year, last_year}
 use Rattle.figuring.specs.Tables.{Table}
 use Rattle.book.specs.Sizes.{makers, sets, years}
 use Rattle.book.specs.Ledger.{Key, key, In, figure_at}
 use Rattle.figuring.specs.Life.{closed_year, live, expired, open_short, overdue}
-use Rattle.book.specs.Listing.{is_cell_year, lot_if, lot_entry, shortage_if, shortage_entry}
+use Rattle.book.specs.Listing.{is_cell_year, lot_entry, shortage_entry}
 use Rattle.book.specs.Accounts.{Accounts, move, feed, feed_all}
 use Rattle.book.specs.Postings.{stored, close_done, trade_done, application_done, retirement_done}
 use Rattle.book.specs.Rules.{Request, posted_to, done}
@@ -90,9 +91,24 @@ unfolding is_cell_year
 in_cell m s v hm hs hl hh = rw (lt-ltb m makers hm, lt-ltb s sets hs, le-leb first_year v hl, le-leb v last_year hh)
 
 module _ (o m s v : ℕ) (hm : m < makers) (hs : s < sets) (hl : first_year ≤ v) (hh : v ≤ last_year) where
+  -- what the listing shows of a lot of n Mg, and of a shortage
+  abbrev lot_of : ℕ → Option LotEntry
+  lot_of n =
+      cond (is_cell_year m s v && ltb 0 n)
+      (cond (live o v) (Some (LotEntry.Live (record { 0 = n })))
+      (cond (expired o v) (Some (LotEntry.Expired (record { 0 = n }))) None))
+      None
+
+  abbrev shortage_of : ℕ → Option ShortageEntry
+  shortage_of n =
+      cond (is_cell_year m s v && ltb 0 n)
+      (cond (open_short o v) (Some (ShortageEntry.Open (record { 0 = n })))
+      (cond (overdue o v) (Some (ShortageEntry.Overdue (record { 0 = n }))) None))
+      None
+
   lot_shown :
       (n : ℕ) → (0 < n → v < o)
-      → lot_text m s v (lot_if (is_cell_year m s v && ltb 0 n) (lot_if (live o v) (LotEntry.Live (record { 0 = n })) (lot_if (expired o v) (LotEntry.Expired (record { 0 = n })) LotEntry.NoLot)) LotEntry.NoLot)
+      → lot_text m s v (lot_of n)
       ≡ item_lines o (above0 n (lot (key m s v) n))
   unfolding live expired closed_year item_lines item_line
   lot_shown zero h = rw (in_cell m s v hm hs hl hh)
@@ -100,7 +116,7 @@ module _ (o m s v : ℕ) (hm : m < makers) (hs : s < sets) (hl : first_year ≤ 
     where
       go :
           Dec (o ≤ v + 6)
-          → lot_text m s v (lot_if (is_cell_year m s v && ltb 0 (suc n)) (lot_if (live o v) (LotEntry.Live (record { 0 = suc n })) (lot_if (expired o v) (LotEntry.Expired (record { 0 = suc n })) LotEntry.NoLot)) LotEntry.NoLot)
+          → lot_text m s v (lot_of (suc n))
           ≡ item_lines o (above0 (suc n) (lot (key m s v) (suc n)))
       go (yes d) =
           rw (in_cell m s v hm hs hl hh, lt-ltb 0 (suc n) (omega arith), le-leb first_year v hl, lt-ltb v o (h (omega arith)), le-leb o (v + 6) d) (filled_end (ascii "(lot # # # live #)") _)
@@ -109,7 +125,7 @@ module _ (o m s v : ℕ) (hm : m < makers) (hs : s < sets) (hl : first_year ≤ 
 
   shortage_shown :
       (n : ℕ) → (0 < n → v < o)
-      → shortage_text m s v (shortage_if (is_cell_year m s v && ltb 0 n) (shortage_if (open_short o v) (ShortageEntry.Open (record { 0 = n })) (shortage_if (overdue o v) (ShortageEntry.Overdue (record { 0 = n })) ShortageEntry.NoShortage)) ShortageEntry.NoShortage)
+      → shortage_text m s v (shortage_of n)
       ≡ item_lines o (above0 n (short (key m s v) n))
   unfolding open_short overdue closed_year item_lines item_line
   shortage_shown zero h = rw (in_cell m s v hm hs hl hh)
@@ -117,7 +133,7 @@ module _ (o m s v : ℕ) (hm : m < makers) (hs : s < sets) (hl : first_year ≤ 
     where
       go :
           Dec (o ≤ v + 4)
-          → shortage_text m s v (shortage_if (is_cell_year m s v && ltb 0 (suc n)) (shortage_if (open_short o v) (ShortageEntry.Open (record { 0 = suc n })) (shortage_if (overdue o v) (ShortageEntry.Overdue (record { 0 = suc n })) ShortageEntry.NoShortage)) ShortageEntry.NoShortage)
+          → shortage_text m s v (shortage_of (suc n))
           ≡ item_lines o (above0 (suc n) (short (key m s v) (suc n)))
       go (yes d) =
           rw (in_cell m s v hm hs hl hh, lt-ltb 0 (suc n) (omega arith), le-leb first_year v hl, lt-ltb v o (h (omega arith)), le-leb o (v + 4) d) (filled_end (ascii "(short # # # open #)") _)

@@ -2,13 +2,12 @@
 -- whatever, of the terminal that text/specs/Program defines (the last about every two inputs). The second and the third
 -- are of sound books, `FromFresh` says them of the fresh one; Moving has those of two terminals. src/claims.rt holds
 -- each to its proof.
-use Rattle.std.specs.Prelude.{ℕ, suc, ◌+◌, ◌<◌, ◌≤◌, true, List, [], ◌∷◌, ◌++◌, map, ◌↔◌, ◌⊎◌, ◌≡◌, length, take}
-use Rattle.std.proofs.Math.Option.{some}
+use Rattle.std.specs.Prelude.{ℕ, suc, ◌+◌, ◌<◌, ◌≤◌, true, List, [], ◌∷◌, ◌++◌, map, ◌↔◌, ◌⊎◌, ◌≡◌, length, take, Some, Ok}
 use Rattle.figuring.specs.Years.{first_year}
 use Rattle.figuring.specs.Tables.{Table}
 use Rattle.book.specs.Ledger.{Key, In}
 use Rattle.book.specs.Soundness.{sound}
-use Rattle.book.specs.Refusals.{refusal_in}
+use Rattle.book.specs.Refusals.{Answered, refusal_in}
 use Rattle.book.specs.Postings.{fresh_book, seller_lot, buyer_lot, applied_lot, retired_lot}
 use Rattle.book.specs.Rules.{Request, posted_to}
 use Rattle.book.specs.Companions.{Sized, accepted_only}
@@ -33,7 +32,7 @@ use Rattle.shown.specs.Statement.{item_pattern, item_figures, item_line, stateme
 use Rattle.shown.specs.Journal.{journal_of, journal}
 
 -- what a call is answered after some calls
-abbrev pub answer_after : Book → List Request → Request → Answer
+abbrev pub answer_after : Book → List Request → Request → Answered
 answer_after b before r = (posted_to (D.book_after b before) r).answer
 
 -- 1, lines are calls: the book is the calls', and the answers are the calls', with refusal 1 where a line is no form.
@@ -48,15 +47,15 @@ pub record ByCalls (t : Table) (b : Book) (input : List ℕ) : Type 0 where
       → answers_of b (calls t input)
       ≡ answers_of b before ++ answer_after b before r ∷ answers_of (D.book_after b (before ++ r ∷ [])) after
 
--- every answer of a list has p
-abbrev pub Every : (Answer → Type 0) → List Answer → Type 0
+-- every one of a list has p
+abbrev pub Every : {A : Type 0} → (A → Type 0) → List A → Type 0
 Every p [] = Unit {0}
-Every p (a ∷ xs) = p a × Every p xs
+Every p (x ∷ xs) = p x × Every p xs
 
-abbrev pub NotTwo : Answer → Type 0
+abbrev pub NotTwo : Answered → Type 0
 NotTwo a = refusal_in a ≡ 2 → ⊥
 
-abbrev pub Accepts : Answer → Type 0
+abbrev pub Accepts : Answered → Type 0
 Accepts a = is_accepted a ≡ true
 
 -- 2, the demands: no answer is refusal 2, and demand 3 holds of the calls, so of the terminal's book, which can begin
@@ -137,7 +136,7 @@ pub record Tells (Y : ℕ) (o : Opening) (ps : List Request) : Type 0 where
   pub lines : lines_of (statement Y o ps) ≡ map (item_line (year_by Y ps)) (items (accounts_by o ps))
   pub figures :
       (x : Item) → Among x (items (accounts_by o ps))
-      → fit most_digits (item_pattern (year_by Y ps) x) (item_line (year_by Y ps) x) ≡ some (item_figures x)
+      → fit most_digits (item_pattern (year_by Y ps) x) (item_line (year_by Y ps) x) ≡ Some (item_figures x)
 
 -- 3, the sentence on the screen: what is shown is the answers, then the statement of the postings, counted from the open
 -- year and the opening figures of the book, and nothing else.
@@ -150,7 +149,7 @@ pub record OnScreen (t : Table) (b : Book) (input : List ℕ) : Type 0 where
   -- the Mg of an answer, by the accounts of the postings up to its own
   pub left :
       (before : List Request) (r : Request) (after : List Request) (n : ℕ) → calls t input ≡ before ++ r ∷ after
-      → answer_after b before r ≡ Answer.Left (record { 0 = n })
+      → answer_after b before r ≡ Ok (Answer.Left (record { 0 = n }))
       → Leaves (accounts_by (opening_of b) (accepted_only b (before ++ r ∷ []))) r.call n
 
 -- of the program's terminal, which "starts from a fresh book": its statement is counted from 2014 and from zero, so that

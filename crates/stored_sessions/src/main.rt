@@ -8,78 +8,71 @@
 mod files;
 mod sessions;
 
-use book::answers::refusal_number;
+use book::answers::Refusal;
+use book::ledger::Book;
 use figuring::grid::printed_grid;
-use files::{first_book, load_std};
+use figuring::tables::Table;
+use files::{load_std, stored_book};
 use sessions::{ROOM, answer_session};
 use std::env::{Env, FillError};
 use std::fs;
 use std::fs::File;
 use streams::arguments::{PATH_ROOM, path_of};
-use streams::telling::tell;
-use text::loading::Loading;
+use streams::telling::told;
+
+// What is told that failed.
+const WHAT: &str = "stored_sessions: standard output";
 
 fn say(rt: HostRuntime, text: &[u8]) {
-    if let Err(why) = rt.write_all(text) {
-        let _ = tell(&mut rt.stderr(), "stored_sessions: standard output", &why);
-    }
+    told(rt, WHAT, rt.write_all(text));
 }
 
-fn say_refusal(rt: HostRuntime, number: u64) {
-    if let Err(why) = print!(rt; "\n(no {number})\n") {
-        let _ = tell(&mut rt.stderr(), "stored_sessions: standard output", &why);
-    }
+fn say_refusal(rt: HostRuntime, why: Refusal) {
+    let number = u64::from(why);
+    told(rt, WHAT, print!(rt; "\n(no {number})\n"));
 }
 
-// The session of an open file of this name: the table first, then the book.
-fn answer_file(rt: HostRuntime, file: File, name: &str, out: &mut [u8]) {
+// What a session of this name begins with, the lent table first: it becomes that of NAME.std. Then its book, where one is
+// stored.
+fn begin(rt: HostRuntime, name: &str, table: &mut Table) -> Result<Option<Book>, Refusal> {
+    load_std(rt, name, table)?;
+    stored_book(rt, name)
+}
+
+// The session of an open file of this name.
+fn answer_file(rt: HostRuntime, file: File, name: &str, out: &mut [u8; ROOM]) {
     let mut table = printed_grid();
-    let loading = load_std(rt, name, &mut table);
-    if let Loading::Refused(why) = loading {
-        say_refusal(rt, refusal_number(why));
-        return;
+    match begin(rt, name, &mut table) {
+        Ok(stored) => answer_session(rt, file, table, stored, out),
+        Err(why) => say_refusal(rt, why),
     }
-    let first = first_book(rt, name);
-    let reading = first.loading;
-    if let Loading::Refused(why) = reading {
-        say_refusal(rt, refusal_number(why));
-        return;
-    }
-    answer_session(rt, file, table, first, out);
 }
 
-// A file that is missing is said where the session's text would stand.
-fn answer_argument(rt: HostRuntime, i: usize, out: &mut [u8]) {
+// Nothing where there is no such argument. A file that is missing is said where the session's text would stand.
+fn answer_argument(rt: HostRuntime, i: usize, out: &mut [u8; ROOM]) -> Option<()> {
     let mut buffer = [0u8; PATH_ROOM];
-    say(rt, b"== ");
     let answer = rt.arg(i, &mut buffer);
+    if matches!(answer, Err(FillError::NotPresent)) {
+        return None;
+    }
+    say(rt, b"== ");
     let Ok(name) = path_of(answer, &buffer) else {
         say(rt, b" missing\n");
-        return;
+        return Some(());
     };
     say(rt, name.as_bytes());
     match fs::open(&rt, name) {
         Ok(file) => answer_file(rt, file, name, out),
         Err(_) => say(rt, b" missing\n"),
     }
-}
-
-// Whether there is such an argument.
-fn is_argument(rt: HostRuntime, i: usize) -> bool {
-    let mut buffer = [0u8; 1];
-    !matches!(rt.arg(i, &mut buffer), Err(FillError::NotPresent))
-}
-
-fn answer_all(rt: HostRuntime, out: &mut [u8]) {
-    for i in 1..usize::MAX {
-        if !is_argument(rt, i) {
-            return;
-        }
-        answer_argument(rt, i, out);
-    }
+    Some(())
 }
 
 fn main(rt: HostRuntime) {
     let mut out = [0u8; ROOM];
-    answer_all(rt, &mut out);
+    for i in 1..usize::MAX {
+        if answer_argument(rt, i, &mut out).is_none() {
+            return;
+        }
+    }
 }

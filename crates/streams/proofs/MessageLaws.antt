@@ -1,7 +1,7 @@
 -- Laws of a message's words: a text that has been looked through so far goes on with the words of its rest.
 use Rattle.std.proofs.Common.{◌≡◌, ℕ, ◌+◌, ◌-◌, ◌<◌, ◌≤◌, true, false, nat_eq, List, [], ◌∷◌, ◌++◌, length, take, drop, get_or, refl, sym, ap, append_assoc, add-one, drop-cons, append-nil, length-drop, ◌∙◌}
 use Rattle.std.proofs.Math.Seq.{take-suc, take-length}
-use Rattle.std.proofs.Math.ListN.{drop_of_length-le}
+use Rattle.std.proofs.lemmas.List.{drop_all, take_all}
 use Rattle.std.specs.List.{starts_with}
 use Rattle.streams.specs.Messages.{numbered, words}
 
@@ -31,10 +31,14 @@ one_more s at h unlike e =
     e ∙ rw (word, front, append_assoc)
 
 -- nothing is left, or nothing of the system's
-pub at_end : (s : List ℕ) (at : ℕ) → length s ≤ at → words (drop at s) ≡ []
+at_end : (s : List ℕ) (at : ℕ) → length s ≤ at → words (drop at s) ≡ []
 unfolding words
-at_end s at h = rw (drop_of_length-le s {i = at} h)
+at_end s at h = rw (drop_all at s h)
 
 pub looked_through :
     (s : List ℕ) (at : ℕ) → words (drop at s) ≡ [] → words s ≡ take at s ++ words (drop at s) → take at s ≡ words s
 looked_through s at none e = sym (e ∙ rw none (append-nil (take at s)))
+
+pub all_looked_through :
+    (s : List ℕ) (at : ℕ) → length s ≤ at → words s ≡ take at s ++ words (drop at s) → take (length s) s ≡ words s
+all_looked_through s at h e = take-length s ∙ sym (take_all at s h) ∙ looked_through s at (at_end s at h) e

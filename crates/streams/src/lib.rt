@@ -1,5 +1,5 @@
-// What the programs ask of the system, over std: a read as a number, a buffer read full, an argument as a path, and a
-// failure told in a line.
+// What the programs ask of the system, over std: a read whose failure is told, a buffer read full, an argument as a path,
+// and a failure told in a line.
 #![tactic(auto)]
 
 pub mod arguments;

@@ -1,6 +1,7 @@
 // A failure told in one line.
 ghost use Rattle.std.specs.Prelude.{◌≡◌, ◌≤◌, ℕ, List, length, take, OnOk};
 ghost use Rattle.std.specs.Io.KnownBytes.{Appends};
+ghost use Rattle.std.specs.Result.{result_ok};
 ghost use Rattle.streams.specs.Messages.{message, words};
 
 use std::io;
@@ -20,7 +21,18 @@ pub fn tell<W: Write>(to: &mut W, what: &str, why: &io::Error) -> io::Result<()>
     put_message(to, what, &room.get_ref()[..n])
 }
 
-// One line of what failed, and of a text for it without the number that it may end in.
+// What was done; nothing where it failed, which is told on standard error.
+pub fn told<T>(rt: HostRuntime, what: &str, done: io::Result<T>) -> Option<T>
+    ensures { result ≡ result_ok done }
+{
+    done.inspect_err(|why| {
+        let _ = tell(&mut rt.stderr(), what, why);
+    })
+    .ok()
+}
+
+// One line of what failed, and of a text for it without the number that it may end in. The text is bytes, which `write!`
+// does not take.
 pub fn put_message<W: Write>(to: &mut W, what: &str, text: &[u8]) -> io::Result<()>
     ensures { OnOk result (Appends (W.contents to.old) (W.contents to.new) (message what.now text.now)) }
 {
@@ -30,7 +42,9 @@ pub fn put_message<W: Write>(to: &mut W, what: &str, text: &[u8]) -> io::Result<
     to.write_all(b"\n")
 }
 
-// Where the number begins that a text for an error ends in, or the text's end.
+// Where the number begins that a text for an error ends in, or the text's end. An index, since of a chain over
+// `starts_with` a proof does not learn where it ended.
+#[tactic(auto, using(crate::proofs::MessageLaws::no_words, crate::proofs::MessageLaws::one_more, crate::proofs::MessageLaws::rest_is, crate::proofs::MessageLaws::looked_through, crate::proofs::MessageLaws::all_looked_through))]
 fn words_end(text: &[u8]) -> usize
     ensures in_text { result ≤ length text.now }
     ensures words { take result text.now ≡ words text.now }

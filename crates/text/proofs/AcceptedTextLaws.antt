@@ -3,7 +3,7 @@ use Prim.Native.Nat.{ℕ, zero, suc, ◌^◌, ◌≤◌, ◌<◌}
 use native.Mathlib.Omega.{arith}
 use mathlib.Core.Bool.{Bool, true, false, ◌&&◌}
 use mathlib.Core.Path.{◌≡◌, refl, sym, ap, ap₂, subst, ◌∙◌}
-use mathlib.Core.Option.{Option, none, some}
+use Rattle.std.proofs.Common.{Option, None, Some}
 use mathlib.Core.List.{List, [], ◌∷◌, ◌++◌}
 use lib.Dec.{leb, lit≤}
 use lib.ListN.{get_or, set as store, replicate}
@@ -15,14 +15,15 @@ use Rattle.book.specs.Postings.{stored}
 use Rattle.book.specs.declared.ledger.Book.{Book}
 use Rattle.text.specs.Gather.{gather}
 use Rattle.text.specs.declared.entries.Entry.{Entry}
-use Rattle.text.specs.Pattern.{fit, figures, figures_of, padded}
+use Rattle.std.specs.Option.{option_and_then}
+use Rattle.text.specs.Pattern.{fit}
 use Rattle.text.specs.Line.{figure}
 use Rattle.text.specs.Desk.{line_feed}
 use Rattle.text.specs.Lines.{lines_of}
 use Rattle.text.specs.Rendered.{Small}
 use Rattle.text.specs.Entries.{entries, in_book, rank, all_entries, enter, empty_at}
 use Rattle.text.specs.BookText.{entry_figures, entry_lines, open_form, open_line, book_text}
-use Rattle.text.specs.BookReading.{book_digits, only_if, entry_of, on_entry, entered, book_in, all_ended}
+use Rattle.text.specs.BookReading.{book_digits, only_if, entry_of, entered, book_in, all_ended}
 use Rattle.text.specs.RoundTrip.{Writable}
 use Rattle.text.proofs.FeedLaws.{fed, lines_fed}
 use Rattle.text.proofs.EntryLineLaws.{entry_is, open_is}
@@ -44,11 +45,11 @@ record Entries (b : Book) (least : ℕ) (ls : List (List ℕ)) (b' : Book) : Typ
   rises : Rising Fine all_entries least es
   book_is : enter_all b es ≡ b'
 
-pub no_book : {X : Type 0} (b : Book) → ◌≡◌ {A = Option Book} none (some b) → X
+pub no_book : {X : Type 0} (b : Book) → ◌≡◌ {A = Option Book} None (Some b) → X
 no_book b q = let z : ◌≡◌ {A = ℕ} 0 1 = cc in absurd (omega arith)
 
 entered_is :
-    (ls : List (List ℕ)) (least : ℕ) (b b' : Book) → least ≤ all_entries → entered least b ls ≡ some b'
+    (ls : List (List ℕ)) (least : ℕ) (b b' : Book) → least ≤ all_entries → entered least b ls ≡ Some b'
     → Entries b least ls b'
 unfolding entered enter_all entry_lines fed
 entered_is [] least b b' h q =
@@ -56,9 +57,9 @@ entered_is [] least b b' h q =
 entered_is (l ∷ ls) least b b' h q = on (entry_of l) refl q (entered_is ls)
   where
     go :
-        (e : Entry) → entry_of l ≡ some e → (t : Bool) → (in_book e && leb least (rank e)) ≡ t
-        → only_if t (entered (suc (rank e)) (enter b e) ls) ≡ some b'
-        → ((least : ℕ) (b b' : Book) → least ≤ all_entries → entered least b ls ≡ some b' → Entries b least ls b')
+        (e : Entry) → entry_of l ≡ Some e → (t : Bool) → (in_book e && leb least (rank e)) ≡ t
+        → only_if t (entered (suc (rank e)) (enter b e) ls) ≡ Some b'
+        → ((least : ℕ) (b b' : Book) → least ≤ all_entries → entered least b ls ≡ Some b' → Entries b least ls b')
         → Entries b least (l ∷ ls) b'
     go e p true t q ih =
         let w = both (in_book e) (leb least (rank e)) t in
@@ -75,11 +76,12 @@ entered_is (l ∷ ls) least b b' h q = on (entry_of l) refl q (entered_is ls)
 
     on :
         (o : Option Entry) → entry_of l ≡ o
-        → on_entry o (λ e. only_if (in_book e && leb least (rank e)) (entered (suc (rank e)) (enter b e) ls)) ≡ some b'
-        → ((least : ℕ) (b b' : Book) → least ≤ all_entries → entered least b ls ≡ some b' → Entries b least ls b')
+        → option_and_then (λ e. only_if (in_book e && leb least (rank e)) (entered (suc (rank e)) (enter b e) ls)) o
+        ≡ Some b'
+        → ((least : ℕ) (b b' : Book) → least ≤ all_entries → entered least b ls ≡ Some b' → Entries b least ls b')
         → Entries b least (l ∷ ls) b'
-    on none p q ih = no_book b' q
-    on (some e) p q ih = go e p (in_book e && leb least (rank e)) refl q ih
+    on None p q ih = no_book b' q
+    on (Some e) p q ih = go e p (in_book e && leb least (rank e)) refl q ih
 
 -- ---- entries that rise, entered into an empty book, are that book's
 enter_open : (b : Book) (e : Entry) → (enter b e).open_year ≡ b.open_year
@@ -201,20 +203,20 @@ pub record IsText (t : List ℕ) (b : Book) : Type 0 where
   pub text : book_text b ≡ t
   pub writable : Writable b
 
-lines_are : (ls : List (List ℕ)) (b : Book) → book_in ls ≡ some b → IsText (fed ls) b
-unfolding book_in figures fed
+lines_are : (ls : List (List ℕ)) (b : Book) → book_in ls ≡ Some b → IsText (fed ls) b
+unfolding book_in fed
 lines_are [] b q = no_book b q
 lines_are (l ∷ ls) b q = go (fit book_digits open_form l) refl q
   where
     go :
         (o : Option (List ℕ)) → fit book_digits open_form l ≡ o
-        → only_if (figures_of o).fits (entered 0 (empty_at (figure (figures_of o).n 0)) ls) ≡ some b
+        → option_and_then (λ n. entered 0 (empty_at (figure n 0)) ls) o ≡ Some b
         → IsText (l ++ (line_feed ∷ fed ls)) b
-    go none p q = no_book b q
-    go (some ns) p q =
+    go None p q = no_book b q
+    go (Some ns) p q =
         let o = open_is l ns p in
-        let f : entered 0 (empty_at o.0) ls ≡ some b =
-        subst (λ (x : List ℕ). entered 0 (empty_at (figure (padded x) 0)) ls ≡ some b) o.1 q in
+        let f : entered 0 (empty_at o.0) ls ≡ Some b =
+        subst (λ (x : List ℕ). entered 0 (empty_at (figure x 0)) ls ≡ Some b) o.1 q in
         let r = entered_is ls 0 (empty_at o.0) b (omega arith) f in
         record {
           text =
@@ -223,9 +225,9 @@ lines_are (l ∷ ls) b q = go (fit book_digits open_form l) refl q
           writable = subst Writable r.book_is (all_writable o.0 r.es o.3 r.rises);
         }
 
-pub text_is : (t : List ℕ) (b : Book) → only_if (all_ended t) (book_in (lines_of t)) ≡ some b → IsText t b
+pub text_is : (t : List ℕ) (b : Book) → only_if (all_ended t) (book_in (lines_of t)) ≡ Some b → IsText t b
 text_is t b q = go (all_ended t) refl q
   where
-    go : (e : Bool) → all_ended t ≡ e → only_if e (book_in (lines_of t)) ≡ some b → IsText t b
+    go : (e : Bool) → all_ended t ≡ e → only_if e (book_in (lines_of t)) ≡ Some b → IsText t b
     go true e q = subst (λ (x : List ℕ). IsText x b) (lines_fed t e) (lines_are (lines_of t) b q)
     go false e q = no_book b q

@@ -5,7 +5,7 @@ use native.Mathlib.Omega.{arith}
 use mathlib.Core.Bool.{Bool, true, false, cond}
 use mathlib.Core.Path.{◌≡◌, refl, sym, ap, ap₂, ◌∙◌}
 use mathlib.Core.List.{List, [], ◌∷◌, ◌++◌, append_assoc}
-use lib.Dec.{ltb, leb, T}
+use lib.Dec.{ltb, lit≤}
 use lib.IntN.{ℤ, pos, negsuc}
 use lib.ListN.{length, get_or, take, length-append}
 use lib.Seq.{take_all, length-take-le}
@@ -96,7 +96,7 @@ text_is b =
 
 -- ---- lengths: of a line whose pattern, line feed and all, is short enough
 line_length :
-    (p : List ℕ) (m s y n : ℕ) → m < 10 → s < 10 → y < 10000 → T (leb (length (ended p) + 26) entry_room)
+    (p : List ℕ) (m s y n : ℕ) → m < 10 → s < 10 → y < 10000 → length (ended p) + 26 ≤ entry_room
     → length (ended (filled p (m ∷ s ∷ y ∷ n ∷ []))) ≤ entry_room
 line_length p m s y n hm hs hy t =
     rw (← filled_ended p (m ∷ s ∷ y ∷ n ∷ [])) (entry_length (ended p) m s y n hm hs hy t)
@@ -109,12 +109,12 @@ family_fits marks parts i h = go (filed_at marks i) (get_or parts i (pos 0))
         (t : Bool) (z : ℤ)
         → length (entry_lines (entry_if t (Entry.Family (i / families / sets) (i / families % sets) (i % families) z)))
         ≤ entry_room
-    go true (pos k) = line_length _ _ _ _ _ (omega arith) (omega arith) (omega arith) tt
-    go true (negsuc k) = line_length _ _ _ _ _ (omega arith) (omega arith) (omega arith) tt
+    go true (pos k) = line_length _ _ _ _ _ (omega arith) (omega arith) (omega arith) (lit≤ tt)
+    go true (negsuc k) = line_length _ _ _ _ _ (omega arith) (omega arith) (omega arith) (lit≤ tt)
     go false z = omega arith
 
 pub mg_fits :
-    (p l : List ℕ) (i : ℕ) → i < places → T (leb (length p + 26) entry_room) → length (mg_line p l i) ≤ entry_room
+    (p l : List ℕ) (i : ℕ) → i < places → length p + 26 ≤ entry_room → length (mg_line p l i) ≤ entry_room
 unfolding mg_line
 mg_fits p l i h t = go (ltb 0 (get_or l i 0))
   where
@@ -131,7 +131,7 @@ pub families_length :
 families_length marks parts = gather_length (family_line marks parts) entry_room all_parts (family_fits marks parts)
 
 pub mgs_length :
-    (p l : List ℕ) → T (leb (length p + 26) entry_room) → length (gather places (mg_line p l)) ≤ places * entry_room
+    (p l : List ℕ) → length p + 26 ≤ entry_room → length (gather places (mg_line p l)) ≤ places * entry_room
 mgs_length p l t = gather_length (mg_line p l) entry_room places (λ i h. mg_fits p l i h t)
 
 pub open_length : (y : ℕ) → length (ended (open_line y)) ≤ entry_room
@@ -151,8 +151,8 @@ longest b =
           (gather places (mg_line (ended short.pattern) b.shortages)),
       open_length b.open_year,
       families_length b.marks b.parts,
-      mgs_length (ended lot.pattern) b.lots tt,
-      mgs_length (ended short.pattern) b.shortages tt,
+      mgs_length (ended lot.pattern) b.lots (lit≤ tt),
+      mgs_length (ended short.pattern) b.shortages (lit≤ tt),
     ))
 
 -- ---- a text that is longer is no book's

@@ -8,9 +8,10 @@ use mathlib.Core.List.{List, [], ◌∷◌, ◌++◌, append_assoc, append-nil}
 use lib.Dec.{ltb, leb, eqb}
 use lib.ListN.{length, get_or, drop, take-append-drop}
 use borrow.Author.Tests.{lt-ltb, le-leb, lt-leb, ltb-true, ltb-false, leb-true, eqb-false, ne_eqb, not-true}
-use Rattle.text.specs.declared.numbers.Number.{Number}
+use Rattle.std.proofs.Common.{Option, Some, None}
+use Rattle.std.proofs.lemmas.Option.{none-some, same_Some}
 use Rattle.figuring.proofs.BoolLaws.{both}
-use Rattle.text.specs.Numeral.{digit, leading, worth, value, proper, number, number_if, numeral, numeral_of}
+use Rattle.text.specs.Numeral.{digit, leading, worth, value, proper, number, numeral, numeral_of}
 use Rattle.text.proofs.DigitLaws.{digit_low, digit_high, is_digit, worth_bound, lead_take}
 use Rattle.text.proofs.NumeralLaws.{numeral_small, numeral_more, numeral_short}
 
@@ -112,24 +113,26 @@ small most ds d e =
 
 -- a number that is read
 pub read_is :
-    (most : ℕ) (s : List ℕ) (v k : ℕ) → most ≤ 18 → number most s ≡ Number.Read v k
+    (most : ℕ) (s : List ℕ) (v k : ℕ) → most ≤ 18 → number most s ≡ Some (v, k)
     → (s ≡ numeral v ++ drop k s) × (v < 10 ^ most)
 unfolding number
 read_is most s v k m e = go (proper most (leading s)) refl e
   where
     go :
-        (b : Bool) → proper most (leading s) ≡ b → number_if b (value (leading s)) (length (leading s)) ≡ Number.Read v k
+        (b : Bool) → proper most (leading s) ≡ b
+        → ◌≡◌ {A = Option (ℕ × ℕ)} (cond b (Some (value (leading s), length (leading s))) None) (Some (v, k))
         → (s ≡ numeral v ++ drop k s) × (v < 10 ^ most)
     go true p q =
-        let a : value (leading s) ≡ v = cc in
-        let b : length (leading s) ≡ k = cc in
+        let w = same_Some _ _ q in
+        let a : value (leading s) ≡ v = ap (λ (r : ℕ × ℕ). r.0) w in
+        let b : length (leading s) ≡ k = ap (λ (r : ℕ × ℕ). r.1) w in
         let n : numeral v ≡ leading s = rw (← a) (canonical most (leading s) m (lead_digits s) p) in (
           rw (n, ← b) (sym (take-append-drop (length (leading s)) s)
               ∙ ap (λ (x : List ℕ). x ++ drop (length (leading s)) s) (lead_take s)),
           rw (← a)
               (small most (leading s) (lead_digits s) p),
         )
-    go false p q = let z : ◌≡◌ {A = ℕ} 0 1 = cc in absurd (omega arith)
+    go false p q = absurd (none-some _ q)
 
 -- ---- the other way: a numeral is read as its number
 abbrev pub stops : List ℕ → Bool
@@ -217,7 +220,7 @@ numeral_proper (suc most) (suc n) o m h =
 
 pub numeral_read :
     (most n : ℕ) (r : List ℕ) → 0 < most → most ≤ 18 → n < 10 ^ most
-    → stops r ≡ true → number most (numeral n ++ r) ≡ Number.Read n (length (numeral n))
+    → stops r ≡ true → number most (numeral n ++ r) ≡ Some (n, length (numeral n))
 unfolding number value
 numeral_read most n r o m h e =
     rw (

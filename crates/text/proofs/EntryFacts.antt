@@ -1,5 +1,5 @@
 -- What the tests of an entry say: its maker, set, and number or year are the book's, and its rank is below all ranks.
-use Prim.Native.Nat.{ℕ, ◌<◌}
+use Prim.Native.Nat.{ℕ, ◌+◌, ◌*◌, ◌<◌}
 use native.Mathlib.Omega.{arith}
 use mathlib.Core.Bool.{true}
 use mathlib.Core.Path.{◌≡◌}
@@ -8,22 +8,26 @@ use lib.IntN.{ℤ}
 use borrow.Author.Tests.{lt-ltb, le-leb, ltb-true}
 use Rattle.figuring.specs.Years.{first_year, last_year}
 use Rattle.figuring.proofs.BoolLaws.{both, and_intro}
-use Rattle.book.specs.Sizes.{makers, sets, families}
-use Rattle.book.specs.Ledger.{In, key}
+use Rattle.book.specs.Sizes.{makers, sets, families, places, all_parts}
+use Rattle.book.specs.Ledger.{In, key, cell, place, is_family}
 use Rattle.book.specs.Listing.{is_cell_year}
 use Rattle.book.proofs.ListingLaws.{cell_year}
 use Rattle.text.specs.declared.entries.Entry.{Entry}
-use Rattle.text.specs.Entries.{family_in, in_book, rank, all_entries}
+use Rattle.text.specs.Entries.{in_book, rank, all_entries}
+use Rattle.std.specs.Prelude.{Some}
+use Rattle.text.specs.BookReading.{only_if}
 use Rattle.text.specs.EachEntry.{FamilyIn}
 use Rattle.text.proofs.EntryLineLaws.{AboveZero}
 
-pub family_in_lem : {m s n : ℕ} → family_in m s n ≡ true → FamilyIn m s n
+pub family_in_lem : {m s n : ℕ} → is_family m s n ≡ true → FamilyIn m s n
+unfolding is_family
 family_in_lem {m} {s} {n} e =
     let v = both (ltb m makers) _ e in
     let w = both (ltb s sets) _ v.1 in
     record { maker = ltb-true m makers v.0; set = ltb-true s sets w.0; number = ltb-true n families w.1 }
 
-pub in_family : {m s n : ℕ} → FamilyIn m s n → family_in m s n ≡ true
+pub in_family : {m s n : ℕ} → FamilyIn m s n → is_family m s n ≡ true
+unfolding is_family
 in_family {m} {s} {n} i =
     and_intro (lt-ltb m makers i.maker) (and_intro (lt-ltb s sets i.set) (lt-ltb n families i.number))
 
@@ -35,7 +39,7 @@ in_figure {m} {s} {y} i =
 
 -- the test of an entry, by its kind
 module _ {e : Entry} (h : in_book e ≡ true) where
-  pub family_test : {m s n : ℕ} {z : ℤ} → e ≡ Entry.Family m s n z → family_in m s n ≡ true
+  pub family_test : {m s n : ℕ} {z : ℤ} → e ≡ Entry.Family m s n z → is_family m s n ≡ true
   unfolding in_book
   family_test q = rw q at h
 
@@ -73,3 +77,23 @@ unfolding rank
 rank_below (Entry.Family m s n part) i = omega arith
 rank_below (Entry.Lot m s y mg) i = omega arith
 rank_below (Entry.Shortage m s y mg) i = omega arith
+
+-- where an entry ranks whose place, or family, is the book's
+pub family_ranks :
+    {e : Entry} {m s n i : ℕ} {z : ℤ} → e ≡ Entry.Family m s n z → FamilyIn m s n → i ≡ cell m s * families + n
+    → Some i ≡ only_if (in_book e) (Some (rank e))
+unfolding in_book rank
+family_ranks q h e = rw (q, in_family h, e)
+
+module _ {e : Entry} {m s y mg i : ℕ} (h : In (key m s y)) where
+  pub lot_ranks : e ≡ Entry.Lot m s y mg → i ≡ all_parts + place (key m s y) → Some i ≡ only_if (in_book e) (Some (rank e))
+  unfolding in_book rank
+  lot_ranks q at = rw (q, in_figure h, at)
+
+  pub shortage_ranks :
+      e ≡ Entry.Shortage m s y mg → i ≡ all_parts + (places + place (key m s y)) → Some i ≡ only_if (in_book e) (Some (rank e))
+  unfolding in_book rank
+  shortage_ranks q at = rw (q, in_figure h, at)
+
+-- the test of an entry, for each kind
+pub ruleset entry_tests = (family_test, family_facts, lot_test, shortage_test)

@@ -2,9 +2,10 @@
 use mathlib.Core.Path.{refl}
 use Rattle.book.specs.Refusals.{refusal_in, values_in}
 use Rattle.book.specs.Rules.{head_rows}
+use Rattle.book.specs.Ledger.{is_family}
 use Rattle.book.specs.Listing.{is_cell_year}
 use Rattle.text.specs.Numeral.{leading, worth, value, number, numeral_of}
-use Rattle.text.specs.Pattern.{fit, figures, filled}
+use Rattle.text.specs.Pattern.{fit, filled}
 use Rattle.text.specs.Line.{line_at, line_of}
 use Rattle.text.specs.Answers.{text_of}
 use Rattle.text.specs.Lines.{lines_from}
@@ -15,7 +16,7 @@ use Rattle.text.specs.BookReading.{entry_of, entered, book_in, ends_in_feed, rea
 use Rattle.text.specs.BookExamples.{BookEdges}
 
 pub run : Run
-unfolding line_of line_at figures fit number leading value worth text_of refusal_in values_in filled numeral_of
+unfolding line_of line_at fit number leading value worth text_of refusal_in values_in filled numeral_of
 run =
     record {
       file = refl;
@@ -33,11 +34,11 @@ run =
     }
 
 pub fields : Fields
-unfolding line_of line_at figures fit number leading value worth
+unfolding line_of line_at fit number leading value worth
 fields = record { file = refl; amend = refl; trade = refl; apply = refl; retire = refl }
 
 pub edges : Edges
-unfolding line_of line_at figures fit number leading value worth lines_from
+unfolding line_of line_at fit number leading value worth lines_from
 edges =
     record {
       zero = refl;
@@ -60,7 +61,7 @@ edges =
     }
 
 pub book_edges : BookEdges
-unfolding entry_of figures fit number leading value worth filled numeral_of in_book is_cell_year entered rank read_book ends_in_feed book_in lines_from writing_rows head_rows
+unfolding entry_of fit number leading value worth filled numeral_of in_book is_family is_cell_year entered rank read_book ends_in_feed book_in lines_from writing_rows head_rows
 book_edges =
     record {
       family = refl;

@@ -1,92 +1,91 @@
 -- Laws of putting a pattern into a buffer, a step at a time.
-use Prim.Native.Nat.{ℕ, zero, suc, ◌+◌, ◌*◌, ◌/◌, ◌%◌, ◌≤◌, ◌<◌}
+use Prim.Native.Nat.{ℕ, zero, suc, ◌+◌, ◌-◌, ◌*◌, ◌/◌, ◌%◌, ◌≤◌, ◌<◌}
 use native.Mathlib.Numerals.{add-one}
 use native.Mathlib.Omega.{arith}
 use mathlib.Core.Bool.{Bool, true, false, cond}
-use mathlib.Core.Path.{◌≡◌, refl, sym, ap, ◌∙◌}
+use mathlib.Core.Path.{◌≡◌, refl, sym, ap}
 use mathlib.Core.List.{List, [], ◌∷◌, ◌++◌, append_assoc, append-nil}
-use lib.Dec.{eqb, ltb, leb, T, leb→le, lit≤}
-use lib.ListN.{length, get_or, drop, set, replicate, length-append, drop_of_length-le}
-use lib.Seq.{drop-cons, drop-drop, sets as overwritten, length-sets}
+use lib.Dec.{eqb, ltb, lit≤}
+use lib.ListN.{length, get_or, take, drop, length-append, length-drop, drop_of_length-le}
+use lib.Seq.{take_all, drop-cons}
 use borrow.Author.Tests.{eq-eqb, ne_eqb}
 use Rattle.text.specs.Numeral.{numeral, numeral_of}
-use Rattle.text.specs.Pattern.{hashes, filled, most_figures, choose, hash}
-use Rattle.text.proofs.DigitLaws.{first_byte}
+use Rattle.text.specs.Pattern.{hashes, filled, choose, hash}
 use Rattle.text.proofs.NumeralLaws.{numeral_small}
-use Rattle.text.proofs.StoreLaws.{overwritten_append, overwritten_one}
+use Rattle.text.specs.declared.page.Page.{Page}
+use Rattle.text.specs.Placing.{HasRoom, Adds}
+use Rattle.text.proofs.StoreLaws.{adds_nothing, adds_text, adds_then, after_adds}
 
--- up to place i of a pattern p, k of the numbers ns are put, into what was l, from at up to w
-pub record Put (p ns l out : List ℕ) (at k w i : ℕ) : Type 0 where
-  pub in_pattern : i ≤ length p
-  pub room : k + hashes (drop i p) ≤ most_figures
+-- up to place i of a pattern p, the numbers ns but for `left` are put: page a has come to b
+pub record Filling (p ns : List ℕ) (a b : Page) (left : List ℕ) (i : ℕ) : Type 0 where
+  pub as_many : length left ≡ hashes (drop i p)
   pub done : List ℕ
-  pub out_is : out ≡ overwritten l at done
-  pub w_is : w ≡ at + length done
-  pub rest : filled p ns ≡ done ++ filled (drop i p) (drop k ns)
+  pub adds : Adds done a b
+  pub rest : filled p ns ≡ done ++ filled (drop i p) left
 
-pub start : (p ns l : List ℕ) (at : ℕ) → hashes p ≤ most_figures → Put p ns l l at 0 at 0
-start p ns l at h =
-    record { in_pattern = omega arith; room = omega arith; done = []; out_is = refl; w_is = omega arith; rest = refl }
+pub start : (p ns : List ℕ) (a : Page) → length ns ≡ hashes p → Filling p ns a a ns 0
+start p ns a h = record { as_many = h; done = []; adds = adds_nothing refl; rest = refl }
 
-module _ {p ns l out : List ℕ} {at k w i : ℕ} (half : Put p ns l out at k w i) where
+module _ {p ns left : List ℕ} {a b : Page} {i : ℕ} (f : Filling p ns a b left i) where
   module _ (here : i < length p) where
     module _ (is-hash : get_or p i 0 ≡ hash) where
-      step : filled (drop i p) (drop k ns) ≡ numeral (get_or ns k 0) ++ filled (drop (suc i) p) (drop (suc k) ns)
+      fewer : hashes (drop i p) ≡ suc (hashes (drop (suc i) p))
+      unfolding hashes
+      fewer = rw (drop-cons p i 0 here, eq-eqb _ hash is-hash)
+
+      pub one_left : 1 ≤ length left
+      one_left = omega (arith, f.as_many, fewer)
+
+      step : filled (drop i p) left ≡ numeral (get_or left 0 0) ++ filled (drop (suc i) p) (drop 1 left)
       unfolding filled
-      step = rw (drop-cons p i 0 here, eq-eqb _ hash is-hash, first_byte ns k, drop-drop 1 k ns, add-one k)
+      step = rw (drop-cons p i 0 here, eq-eqb _ hash is-hash)
 
-      pub number_room : w + length (numeral (get_or ns k 0)) ≤ at + length (filled p ns)
-      number_room = rw (half.rest, step) (simp length-append (omega (arith, half.w_is)))
+      pub number_room : HasRoom (length (filled p ns)) a → HasRoom (length (numeral (get_or left 0 0))) b
+      number_room h =
+          let n : length (filled p ns)
+          ≡ length f.done + (length (numeral (get_or left 0 0)) + length (filled (drop (suc i) p) (drop 1 left))) =
+          rw (f.rest, step) (simp length-append) in
+          omega (arith, h, after_adds f.adds)
 
-      pub place_here : k < most_figures
-      unfolding hashes
-      place_here =
-          let e : hashes (drop i p) ≡ suc (hashes (drop (suc i) p)) =
-          rw (drop-cons p i 0 here, eq-eqb _ hash is-hash) in
-          omega (arith, half.room)
-
-      pub put_number : Put p ns l (overwritten out w (numeral (get_or ns k 0))) at (k + 1)
-          (w + length (numeral (get_or ns k 0))) (i + 1)
-      unfolding hashes
-      put_number =
-          let e : hashes (drop i p) ≡ suc (hashes (drop (suc i) p)) =
-          rw (drop-cons p i 0 here, eq-eqb _ hash is-hash) in
-          record {
-            in_pattern = omega arith;
-            room = rw (add-one i) (omega (arith, half.room));
-            done = half.done ++ numeral (get_or ns k 0);
-            out_is = rw (half.out_is, half.w_is) (overwritten_append half.done (numeral (get_or ns k 0)) l at);
-            w_is = rw length-append (omega (arith, half.w_is));
-            rest = rw (half.rest, step, add-one i, add-one k, append_assoc);
-          }
+      pub put_number :
+          {c : Page} → Adds (numeral (get_or left 0 0)) b c
+          → Filling p ns a c (take (length left - 1) (drop 1 left)) (i + 1)
+      put_number h =
+          rw (take_all (length left - 1) (drop 1 left) (rw length-drop (omega arith)))
+          (record {
+            as_many = rw add-one (simp length-drop (omega (arith, f.as_many, fewer)));
+            done = f.done ++ numeral (get_or left 0 0);
+            adds = adds_then f.adds h;
+            rest = rw (f.rest, step, add-one i, append_assoc);
+          })
 
     module _ (other : get_or p i 0 ≡ hash → ⊥) where
-      step_byte : filled (drop i p) (drop k ns) ≡ get_or p i 0 ∷ filled (drop (suc i) p) (drop k ns)
+      same : hashes (drop i p) ≡ hashes (drop (suc i) p)
+      unfolding hashes
+      same = rw (drop-cons p i 0 here, ne_eqb _ hash other)
+
+      step_byte : filled (drop i p) left ≡ get_or p i 0 ∷ filled (drop (suc i) p) left
       unfolding filled
       step_byte = rw (drop-cons p i 0 here, ne_eqb _ hash other)
 
-      pub byte_room : w < at + length (filled p ns)
-      byte_room = rw (half.rest, step_byte) (simp length-append (omega (arith, half.w_is)))
+      pub byte_room : HasRoom (length (filled p ns)) a → HasRoom 1 b
+      byte_room h =
+          let n : length (filled p ns) ≡ length f.done + suc (length (filled (drop (suc i) p) left)) =
+          rw (f.rest, step_byte) (simp length-append) in
+          omega (arith, h, after_adds f.adds)
 
-      pub put_byte : Put p ns l (set out w (get_or p i 0)) at k (w + 1) (i + 1)
-      unfolding hashes
-      put_byte =
-          let e : hashes (drop i p) ≡ hashes (drop (suc i) p) = rw (drop-cons p i 0 here, ne_eqb _ hash other) in
+      pub put_byte : {c : Page} → Adds (get_or p i 0 ∷ []) b c → Filling p ns a c left (i + 1)
+      put_byte h =
           record {
-            in_pattern = omega arith;
-            room = rw (add-one i) (omega (arith, half.room));
-            done = half.done ++ (get_or p i 0 ∷ []);
-            out_is = rw (half.out_is, half.w_is) (overwritten_one half.done l at (get_or p i 0));
-            w_is = rw length-append (omega (arith, half.w_is));
-            rest = rw (half.rest, step_byte, add-one i, append_assoc);
+            as_many = rw add-one (omega (arith, f.as_many, same));
+            done = f.done ++ (get_or p i 0 ∷ []);
+            adds = adds_then f.adds h;
+            rest = rw (f.rest, step_byte, add-one i, append_assoc);
           }
 
-  pub same_long : length out ≡ length l
-  same_long = rw half.out_is (length-sets l at half.done)
-
-  pub all : length p ≤ i → filled p ns ≡ half.done
+  pub all : length p ≤ i → Adds (filled p ns) a b
   unfolding filled
-  all over = rw (half.rest, drop_of_length-le p over, append-nil)
+  all over = adds_text (sym (rw (f.rest, drop_of_length-le p over, append-nil))) f.adds
 
 -- the length of a number's digits, and of a filled pattern
 pub numeral_length : (k n : ℕ) → length (numeral_of k n) ≤ k
@@ -113,40 +112,6 @@ filled_length (p ∷ ps) ns = go (eqb p hash) (filled_length ps (drop 1 ns)) (fi
         (length ps) + 20 * cond b (suc (hashes ps)) (hashes ps)
     go true a b = rw length-append (omega (arith, numeral_length 20 (get_or ns 0 0)))
     go false a b = omega arith
-
--- room for a filled pattern, by a test that computes
-pub room_for :
-    (p ns : List ℕ) (m at size : ℕ) → at + m ≤ size → T (leb (length p + 20 * hashes p) m)
-    → at + length (filled p ns) ≤ size
-room_for p ns m at size h t = omega (arith, filled_length p ns, leb→le (length p + 20 * hashes p) m t)
-
--- ---- zeros after the numbers change nothing
-drop_one : (ns : List ℕ) (k : ℕ) → (j : ℕ) × (drop 1 (ns ++ replicate k 0) ≡ drop 1 ns ++ replicate j 0)
-drop_one [] zero = (0, refl)
-drop_one [] (suc k) = (k, refl)
-drop_one (n ∷ ns) k = (k, refl)
-
-get_one : (ns : List ℕ) (k : ℕ) → get_or (ns ++ replicate k 0) 0 0 ≡ get_or ns 0 0
-get_one [] zero = refl
-get_one [] (suc k) = refl
-get_one (n ∷ ns) k = refl
-
-pub filled_zeros : (p ns : List ℕ) (k : ℕ) → filled p (ns ++ replicate k 0) ≡ filled p ns
-unfolding filled
-filled_zeros [] ns k = refl
-filled_zeros (p ∷ ps) ns k =
-    let d = drop_one ns k in
-    go (eqb p hash) (ap (filled ps) d.1 ∙ filled_zeros ps (drop 1 ns) d.0) (filled_zeros ps ns k)
-  where
-    go :
-        (b : Bool)
-        → filled ps (drop 1 (ns ++ replicate k 0)) ≡ filled ps (drop 1 ns)
-        → filled ps (ns ++ replicate k 0) ≡ filled ps ns
-        → choose b (λ u. numeral (get_or (ns ++ replicate k 0) 0 0) ++ filled ps (drop 1 (ns ++ replicate k 0)))
-        (λ u. p ∷ filled ps (ns ++ replicate k 0))
-        ≡ choose b (λ u. numeral (get_or ns 0 0) ++ filled ps (drop 1 ns)) (λ u. p ∷ filled ps ns)
-    go true a b = rw (get_one ns k, a)
-    go false a b = rw b
 
 -- a byte after a pattern
 pub filled_then : (p ns : List ℕ) (c : ℕ) → eqb c hash ≡ false → filled (p ++ (c ∷ [])) ns ≡ filled p ns ++ (c ∷ [])

@@ -7,9 +7,11 @@ use mathlib.Core.Logic.{◌⊎◌, inl, inr, ⊎_elim}
 use mathlib.Core.Path.{◌≡◌, refl, sym, ap, subst, ◌∙◌}
 use mathlib.Core.List.{List, [], ◌∷◌, ◌++◌, append_assoc}
 use lib.Dec.{eqb, ltb}
-use lib.ListN.{length, get_or, take, drop, drop_of_length-le}
-use lib.Seq.{drop-cons, drop-drop, take_all, take-nil}
-use borrow.Author.Tests.{eqb-true, eqb-false, eq-eqb, ne_eqb, not-true}
+use lib.ListN.{length, get_or, take, drop, length-append, length-drop}
+use lib.Seq.{drop-drop, take_all, take-nil}
+use borrow.Author.Tests.{eqb-true, eqb-false, not-true}
+use Rattle.std.specs.List.{take_while}
+use Rattle.std.proofs.lemmas.List.Sums.{take_while-cons}
 use Rattle.figuring.proofs.BoolLaws.{both}
 use Rattle.text.specs.Numeral.{numeral, numeral_of}
 use Rattle.text.specs.Pattern.{filled, hash, choose}
@@ -139,17 +141,31 @@ module _ (text : List ℕ) (at : ℕ) {end : ℕ} (ends : end ≡ line_end text 
       let e : end + 1 ≡ at + suc (length (first_line (drop at text))) = omega arith in
       rw e (sym (drop-drop (suc (length (first_line (drop at text)))) at text))
 
-module _ (s : List ℕ) (i : ℕ) where
-  pub line_goes :
-      i < length s → (get_or s i 0 ≡ line_feed → ⊥)
-      → length (first_line (drop i s)) ≡ suc (length (first_line (drop (suc i) s)))
-  unfolding first_line
-  line_goes h e = rw (drop-cons s i 0 h, ne_eqb _ line_feed e)
+-- std's word for the line
+pub first_while : (s : List ℕ) → first_line s ≡ take_while (λ b. not (eqb b line_feed)) s
+unfolding first_line
+first_while [] = refl
+first_while (b ∷ s) =
+    rw (first_while s, take_while-cons (λ b. not (eqb b line_feed)) b s) (go (eqb b line_feed) (take_while (λ b. not (eqb b line_feed)) s))
+  where
+    go : (e : Bool) (l : List ℕ) → cond e [] (b ∷ l) ≡ cond (not e) (b ∷ l) []
+    go true l = refl
+    go false l = refl
 
-  pub line_ends : i < length s → get_or s i 0 ≡ line_feed → length (first_line (drop i s)) ≡ 0
-  unfolding first_line
-  line_ends h e = rw (drop-cons s i 0 h, eq-eqb _ line_feed e)
+-- ---- the line that begins at a place, by its length in what is left there
+pub rest_is : (s : List ℕ) (at : ℕ) → take (length s - at) (drop at s) ≡ drop at s
+rest_is s at = take_all (length s - at) (drop at s) (omega (arith, length-drop at s))
 
-  pub text_ends : length s ≤ i → length (first_line (drop i s)) ≡ 0
-  unfolding first_line
-  text_ends h = rw (drop_of_length-le s h)
+first_in : (s : List ℕ) → length (first_line s) ≤ length s
+first_in s = go (parted s)
+  where
+    go : IsLast s ⊎ (s ≡ first_line s ++ line_feed ∷ after_line s) → length (first_line s) ≤ length s
+    go (inl p) = omega (arith, ap length p.0)
+    go (inr p) = omega (arith, ap length p, length-append (first_line s) (line_feed ∷ after_line s))
+
+pub ends_at :
+    (s : List ℕ) (at : ℕ) {n : ℕ} → at ≤ length s → n ≡ length (first_line (take (length s - at) (drop at s)))
+    → (at + n ≡ line_end s at) × (at + n ≤ length s)
+ends_at s at {n} h e =
+    let q : n ≡ length (first_line (drop at s)) = e ∙ rw (rest_is s at) in
+    (omega arith, omega (arith, first_in (drop at s), length-drop at s))

@@ -1,9 +1,9 @@
 -- A line is a form's call just where it is that call, rendered, with its figures small, in at most 160 bytes.
 use Prim.Native.Nat.{ℕ, zero, suc, ◌≤◌}
 use native.Mathlib.Omega.{arith}
-use mathlib.Core.Bool.{Bool, true, false, ◌&&◌}
+use mathlib.Core.Bool.{Bool, true, false, cond, ◌&&◌}
 use mathlib.Core.Path.{◌≡◌, refl, ap, subst, ◌∙◌}
-use mathlib.Core.Option.{Option, none, some}
+use Rattle.std.proofs.Common.{Option, None, Some}
 use mathlib.Core.List.{List, [], ◌∷◌, map}
 use lib.Dec.{ltb, lit≤}
 use lib.ListN.{length, get_or, drop}
@@ -11,9 +11,9 @@ use borrow.Author.Tests.{le-ltb, ltb-false}
 use Rattle.figuring.proofs.BoolLaws.{both}
 use Rattle.book.specs.declared.kinds.Call.{Call}
 use Rattle.book.specs.declared.kinds.Filing.{Filing}
-use Rattle.text.specs.declared.lines.Line.{Line}
-use Rattle.text.specs.Pattern.{fit, filled, hashes, figures, figures_of, padded}
-use Rattle.text.specs.Line.{Form, forms, first_form, line_if, line_at, line_of, longest_line, most_digits}
+use Rattle.std.specs.Option.{option_or, option_map}
+use Rattle.text.specs.Pattern.{fit, filled, hashes}
+use Rattle.text.specs.Line.{Form, forms, first_form, line_at, line_of, longest_line, most_digits}
 use Rattle.text.specs.Rendered.{form_of, figures_in, rendered, Small, IsText, NoText, Reads}
 use Rattle.text.specs.Answers.{answer_to, posted_line, ByText}
 use Rattle.text.proofs.RenderLaws.{fit_fills, fills_fit, separate, apart, apart_unfit}
@@ -42,7 +42,7 @@ given ns f = (f, firsts (hashes f.pattern) ns)
 
 -- the form and the figures of the call that it makes of them
 abbrev read_back : List ℕ → Form → Form × List ℕ
-read_back ns f = let c = f.call (padded (given ns f).1) in (form_of c, figures_in c)
+read_back ns f = let c = f.call (given ns f).1 in (form_of c, figures_in c)
 
 -- they are the same: computed for all forms at once
 again : (ns : List ℕ) → map (read_back ns) forms ≡ map (given ns) forms
@@ -51,8 +51,7 @@ again ns = refl
 
 accepted :
     (fs : List Form) → ((ns : List ℕ) → map (read_back ns) fs ≡ map (given ns) fs)
-    → (s : List ℕ) (c : Call) → first_form fs s ≡ Line.Form c → (s ≡ rendered c) × Small most_digits (figures_in c)
-unfolding figures
+    → (s : List ℕ) (c : Call) → first_form fs s ≡ Some c → (s ≡ rendered c) × Small most_digits (figures_in c)
 accepted [] a s c e = let z : ◌≡◌ {A = ℕ} 0 1 = cc in absurd (omega arith)
 accepted (f ∷ fs) a s c e =
     go (fit most_digits f.pattern s) refl e (accepted fs (λ ns. tail_same (a ns)) s c)
@@ -60,13 +59,13 @@ accepted (f ∷ fs) a s c e =
     go :
         (o : Option (List ℕ))
         → fit most_digits f.pattern s ≡ o
-        → line_if (figures_of o).fits (Line.Form (f.call (figures_of o).n)) (first_form fs s) ≡ Line.Form c
-        → (first_form fs s ≡ Line.Form c → (s ≡ rendered c) × Small most_digits (figures_in c))
+        → option_or (option_map f.call o) (first_form fs s) ≡ Some c
+        → (first_form fs s ≡ Some c → (s ≡ rendered c) × Small most_digits (figures_in c))
         → (s ≡ rendered c) × Small most_digits (figures_in c)
-    go none p q ih = ih q
-    go (some ns) p q ih =
+    go None p q ih = ih q
+    go (Some ns) p q ih =
         let w = fit_fills most_digits (lit≤ tt) f.pattern s ns p in
-        let d : f.call (padded ns) ≡ c = cc in
+        let d : f.call ns ≡ c = cc in
         let l : firsts (hashes f.pattern) ns ≡ ns = listed (hashes f.pattern) ns w.count in
         let r : read_back ns f ≡ given ns f = head_same (a ns) in
         let k : ◌≡◌ {A = Form × List ℕ} (form_of c, figures_in c) (f, ns) = rw (← d) (rw l at r) in
@@ -74,12 +73,12 @@ accepted (f ∷ fs) a s c e =
         let n : figures_in c ≡ ns = ap (λ (x : Form × List ℕ). x.1) k in
         (rw (g, n) w.text, rw n w.small)
 
-only : (s : List ℕ) (c : Call) → line_of s ≡ Line.Form c → IsText s c
+only : (s : List ℕ) (c : Call) → line_of s ≡ Some c → IsText s c
 unfolding line_of line_at
 only s c e = go (ltb longest_line (length s)) refl e
   where
     go :
-        (b : Bool) → ltb longest_line (length s) ≡ b → line_if b Line.NoForm (first_form forms s) ≡ Line.Form c
+        (b : Bool) → ltb longest_line (length s) ≡ b → cond b None (first_form forms s) ≡ Some c
         → IsText s c
     go true p q = let z : ◌≡◌ {A = ℕ} 0 1 = cc in absurd (omega arith)
     go false p q =
@@ -98,7 +97,7 @@ record Formed (c : Call) : Type 0 where
   place : ℕ
   is_there : IsAt place forms (form_of c)
   count : length (figures_in c) ≡ hashes (form_of c).pattern
-  made : (form_of c).call (padded (figures_in c)) ≡ c
+  made : (form_of c).call (figures_in c) ≡ c
 
 filed : (amends : Bool) (x : Filing) → x.amends ≡ amends → Formed (Call.File x)
 unfolding hashes
@@ -135,9 +134,9 @@ all_apart (f ∷ fs) = every (λ g. apart f.pattern g.pattern) fs && all_apart f
 
 chosen :
     (n : ℕ) (fs : List Form) (f : Form) (ns : List ℕ) → IsAt n fs f → all_apart fs ≡ true → Small most_digits ns
-    → fit most_digits f.pattern (filled f.pattern ns) ≡ some ns
-    → first_form fs (filled f.pattern ns) ≡ Line.Form (f.call (padded ns))
-unfolding figures all_apart
+    → fit most_digits f.pattern (filled f.pattern ns) ≡ Some ns
+    → first_form fs (filled f.pattern ns) ≡ Some (f.call ns)
+unfolding all_apart
 chosen n [] f ns h a m e = absurd h
 chosen zero (g ∷ gs) f ns h a m e = rw (h, e)
 chosen (suc n) (g ∷ gs) f ns h a m e =
@@ -146,16 +145,16 @@ chosen (suc n) (g ∷ gs) f ns h a m e =
     rw (apart_unfit most_digits (lit≤ tt) (lit≤ tt) g.pattern f.pattern ns d m) (chosen n gs f ns h w.1 m e)
 
 pub rendered_form :
-    (c : Call) → Small most_digits (figures_in c) → length (rendered c) ≤ longest_line → line_of (rendered c) ≡ Line.Form c
+    (c : Call) → Small most_digits (figures_in c) → length (rendered c) ≤ longest_line → line_of (rendered c) ≡ Some c
 unfolding line_of line_at every all_apart separate apart
 rendered_form c h l =
     let k = formed c in
     let p = each_form (λ f. separate f.pattern) refl c in
     let e = fills_fit most_digits (lit≤ tt) (lit≤ tt) (form_of c).pattern (figures_in c) p k.count h in
     rw (le-ltb longest_line (length (rendered c)) l)
-    (chosen k.place forms (form_of c) (figures_in c) k.is_there refl h e ∙ ap {B = Line} Line.Form k.made)
+    (chosen k.place forms (form_of c) (figures_in c) k.is_there refl h e ∙ ap {B = Option Call} Some k.made)
 
-each : (s : List ℕ) (c : Call) → IsText s c → line_of s ≡ Line.Form c
+each : (s : List ℕ) (c : Call) → IsText s c → line_of s ≡ Some c
 each s c t =
     ap line_of t.text ∙ rendered_form c t.small
     (subst (λ (x : List ℕ). length x ≤ longest_line) t.text t.short)
@@ -164,9 +163,9 @@ each s c t =
 pub reads : Reads
 reads = record { only = only; each = each; else_none = λ s h. go s h (line_of s) refl }
   where
-    go : (s : List ℕ) → NoText s → (r : Line) → line_of s ≡ r → r ≡ Line.NoForm
-    go s h Line.NoForm e = refl
-    go s h (Line.Form c) e = absurd (h c (only s c e))
+    go : (s : List ℕ) → NoText s → (r : Option Call) → line_of s ≡ r → r ≡ None
+    go s h None e = refl
+    go s h (Some c) e = absurd (h c (only s c e))
 
 pub by_text : ByText
 unfolding answer_to

@@ -5,12 +5,11 @@ pub mod NumeralLaws
 pub mod FillLaws
 pub mod CanonLaws
 pub mod RenderLaws
-pub mod FirstFormLaws
 pub mod FormLaws
 pub mod TypedLaws
 pub mod AnswerLaws
-pub mod DeskLaws
 pub mod ServeLaws
+pub mod DeskLaws
 pub mod SessionLaws
 pub mod ListingLaws
 pub mod WholeLaws

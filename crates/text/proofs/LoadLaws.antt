@@ -3,8 +3,8 @@ use Prim.Native.Nat.{ℕ, suc, ◌+◌, ◌-◌, ◌≤◌, ◌<◌, min}
 use native.Mathlib.Decide.{dec_le}
 use native.Mathlib.Numerals.{add-one}
 use native.Mathlib.Omega.{arith}
-use mathlib.Core.Bool.{true, false, cond, true≢false, false≢true}
-use mathlib.Core.Option.{Option, none, some}
+use mathlib.Core.Bool.{true, false, cond}
+use Rattle.std.proofs.Common.{Option, None, Some}
 use mathlib.Core.Path.{◌≡◌, refl, sym, ap, subst, ◌∙◌}
 use mathlib.Core.List.{List, [], ◌∷◌, ◌++◌, append_assoc, append-nil}
 use lib.Dec.{eqb, lit≤}
@@ -15,15 +15,12 @@ use Rattle.figuring.specs.Grid.{grid_years}
 use Rattle.figuring.specs.Years.{first_year}
 use Rattle.figuring.specs.Tables.{Table, no_row, row_fits}
 use Rattle.book.specs.declared.answers.Refusal.TheVariants.{NotATable, UnfitTable}
-use Rattle.text.specs.declared.patterns.Figures.{Figures}
-use Rattle.text.specs.declared.tables.YearRow.{YearRow}
-use Rattle.text.specs.Pattern.{fit, hashes, figures, figures_of, padded}
+use Rattle.text.specs.Pattern.{fit, hashes}
 use Rattle.text.specs.Line.{longest_line, most_digits}
 use Rattle.text.specs.Lines.{lines_from, lines_of}
 use Rattle.text.specs.Loads.{Read, accepted, refused, loading_of, kept}
 use Rattle.text.specs.TableText.{std_form, of_year, row_in, with_row, on_row, rows_from, table_of}
 use Rattle.text.specs.FirstLine.{after_line, line_end}
-use Rattle.text.specs.TableReading.{year_row}
 use Rattle.text.proofs.FormLaws.{listed}
 use Rattle.text.proofs.RenderLaws.{fit_fills}
 use Rattle.text.proofs.FirstLineLaws.{line_at, after_at}
@@ -35,53 +32,30 @@ abbrev entries_in : List ℕ → List ℕ
 entries_in n = get_or n 1 0 ∷ get_or n 2 0 ∷ get_or n 3 0 ∷ get_or n 4 0 ∷ get_or n 5 0 ∷ get_or n 6 0 ∷ []
 
 module _ (y : ℕ) (l : List ℕ) where
-  pub long_line : longest_line < length l → row_in y l ≡ none
+  pub long_line : longest_line < length l → None ≡ row_in y l
   unfolding row_in
   long_line h = rw (lt-ltb longest_line (length l) h)
 
-  module _ (short : length l ≤ longest_line) {f : Figures} (tried : f ≡ figures most_digits std_form l) where
-    pub no_form : f.fits ≡ false → row_in y l ≡ none
-    unfolding row_in figures
-    no_form e =
-        rw (le-ltb longest_line (length l) short)
-        (go (fit most_digits std_form l) (ap (λ (x : Figures). x.fits) (sym tried) ∙ e))
-      where
-        go : (o : Option (List ℕ)) → (figures_of o).fits ≡ false → of_year y o ≡ none
-        go none h = refl
-        go (some ns) h = absurd (true≢false h)
+  module _ (short : length l ≤ longest_line) where
+    pub no_form : fit most_digits std_form l ≡ None → None ≡ row_in y l
+    unfolding row_in
+    no_form e = rw (le-ltb longest_line (length l) short, e)
 
-    module _ (fits : f.fits ≡ true) where
+    module _ {ns : List ℕ} (fits : fit most_digits std_form l ≡ Some ns) where
       -- seven figures, of which the first is the year
-      dated : row_in y l ≡ cond (eqb (get_or f.n 0 0) y) (some (entries_in f.n)) none
-      unfolding row_in figures hashes
+      dated : row_in y l ≡ cond (eqb (get_or ns 0 0) y) (Some (entries_in ns)) None
+      unfolding row_in hashes
       dated =
-          rw (le-ltb longest_line (length l) short, tried)
-          (go (fit most_digits std_form l) refl (ap (λ (x : Figures). x.fits) (sym tried) ∙ fits))
-        where
-          go :
-              (o : Option (List ℕ)) → fit most_digits std_form l ≡ o → (figures_of o).fits ≡ true
-              → of_year y o ≡ cond (eqb (get_or (figures_of o).n 0 0) y) (some (entries_in (figures_of o).n)) none
-          go none p h = absurd (false≢true h)
-          go (some ns) p h =
-              subst
-              (λ (x : List ℕ). of_year y (some x)
-              ≡ cond (eqb (get_or (padded x) 0 0) y) (some (entries_in (padded x))) none)
-              (listed 7 ns (fit_fills most_digits (lit≤ tt) std_form l ns p).count) refl
+          rw (le-ltb longest_line (length l) short, fits)
+          (subst
+          (λ (x : List ℕ). of_year y (Some x) ≡ cond (eqb (get_or x 0 0) y) (Some (entries_in x)) None)
+          (listed 7 ns (fit_fills most_digits (lit≤ tt) std_form l ns fits).count) refl)
 
-      pub other_year : (get_or f.n 0 0 ≡ y → ⊥) → row_in y l ≡ none
-      other_year e = dated ∙ rw (ne_eqb (get_or f.n 0 0) y e)
+      pub other_year : (get_or ns 0 0 ≡ y → ⊥) → None ≡ row_in y l
+      other_year e = sym (dated ∙ rw (ne_eqb (get_or ns 0 0) y e))
 
-      pub a_row : get_or f.n 0 0 ≡ y → row_in y l ≡ some (entries_in f.n)
-      a_row e = dated ∙ rw (eq-eqb (get_or f.n 0 0) y e)
-
--- a row as a value
-none_in : (o : Option (List ℕ)) {r : YearRow} → r ≡ year_row o → r.is ≡ false → o ≡ none
-none_in none e h = refl
-none_in (some row) e h = absurd (true≢false (ap (λ (x : YearRow). x.is) (sym e) ∙ h))
-
-some_in : (o : Option (List ℕ)) {r : YearRow} → r ≡ year_row o → r.is ≡ true → o ≡ some r.row
-some_in none e h = absurd (false≢true (ap (λ (x : YearRow). x.is) (sym e) ∙ h))
-some_in (some row) e h = rw e
+      pub a_row : get_or ns 0 0 ≡ y → Some (entries_in ns) ≡ row_in y l
+      a_row e = sym (dated ∙ rw (eq-eqb (get_or ns 0 0) y e))
 
 -- ---- what is answered
 pub answered :
@@ -142,28 +116,28 @@ module _ {text : List ℕ} {grid : Table} {before : List ℕ} {at i : ℕ} (h : 
         ∙ ap (with_rows (take i grid)) (onward (grid_years - (i + 1)) (first_year + i) before (drop at text))
         ∙ rw (y, next_is, ← line_at text at ends, e)
 
-    module _ {r : YearRow} (read : r ≡ year_row (row_in (first_year + i) (take (end - at) (drop at text)))) where
-      pub no_line : r.is ≡ false → table_of text ≡ refused NotATable
-      no_line e = step none (none_in _ read e)
+    module _ {o : Option (List ℕ)} (read : o ≡ row_in (first_year + i) (take (end - at) (drop at text))) where
+      pub no_line : o ≡ None → table_of text ≡ refused NotATable
+      no_line e = step None (sym read ∙ e)
 
-      module _ (is : r.is ≡ true) where
-        pub unfit : row_fits before r.row ≡ false → table_of text ≡ refused UnfitTable
-        unfit e = step (some r.row) (some_in _ read is) ∙ rw e
+      module _ {row : List ℕ} (is : o ≡ Some row) where
+        pub unfit : row_fits before row ≡ false → table_of text ≡ refused UnfitTable
+        unfit e = step (Some row) (sym read ∙ is) ∙ rw e
 
         pub one_more :
-            row_fits before r.row ≡ true
-            → Loaded text (set grid i r.row) r.row (min (end + 1) (length text)) (i + 1)
-        one_more e =
-            let k : take (i + 1) (set grid i r.row) ≡ take i grid ++ (r.row ∷ []) =
-            rw (add-one i) (take-suc-set grid i r.row (omega (arith, h.long))) in
+            row_fits before row ≡ true → {next : ℕ} → next ≡ min (end + 1) (length text)
+            → Loaded text (set grid i row) row next (i + 1)
+        one_more e n =
+            let k : take (i + 1) (set grid i row) ≡ take i grid ++ (row ∷ []) =
+            rw (add-one i) (take-suc-set grid i row (omega (arith, h.long))) in
             record {
               in_text = omega arith;
               in_grid = omega arith;
-              long = length-set grid i r.row ∙ h.long;
+              long = length-set grid i row ∙ h.long;
               rest =
-                  step (some r.row) (some_in _ read is)
-                  ∙ rw (e, k)
-                  (with_one (take i grid) r.row (lines_at text (min (end + 1) (length text)) (i + 1) r.row));
+                  step (Some row) (sym read ∙ is)
+                  ∙ rw (e, k, n)
+                  (with_one (take i grid) row (lines_at text (min (end + 1) (length text)) (i + 1) row));
             }
 
   module _ (done : grid_years ≤ i) where
@@ -178,3 +152,8 @@ module _ {text : List ℕ} {grid : Table} {before : List ℕ} {at i : ℕ} (h : 
     pub whole_table : length text ≤ at → table_of text ≡ accepted grid
     unfolding rows_from lines_from
     whole_table l = left ∙ rw (drop_of_length-le text l, append-nil grid)
+
+-- what each reader needs: of a row, of the table
+pub ruleset reads_row = (long_line, no_form, other_year, a_row)
+
+pub ruleset reads_table = (start, no_line, unfit, line_more, whole_table, answered)

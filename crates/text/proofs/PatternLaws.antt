@@ -1,134 +1,123 @@
 -- Laws of reading a text against a pattern, a step at a time.
-use Prim.Native.Nat.{ℕ, suc, ◌+◌, ◌≤◌, ◌<◌}
-use native.Mathlib.Nat.{zero-add}
-use native.Mathlib.Numerals.{add-one}
+use Prim.Native.Nat.{ℕ, suc, ◌+◌, ◌-◌, ◌≤◌, ◌<◌}
 use native.Mathlib.Omega.{arith}
-use mathlib.Core.Bool.{Bool, true, false}
-use mathlib.Core.Path.{◌≡◌, refl, sym, ap}
-use mathlib.Core.Option.{Option, none, some}
+use native.Mathlib.Numerals.{add-one}
+use mathlib.Core.Bool.{Bool, true, false, cond}
+use mathlib.Core.Path.{◌≡◌, refl, sym, ap, ◌∙◌}
 use mathlib.Core.List.{List, [], ◌∷◌, ◌++◌, append_assoc, append-nil}
-use lib.ListN.{length, get_or, drop, set, replicate, length-append, length-drop, drop_of_length-le}
-use lib.Seq.{drop-cons, drop-drop}
+use lib.ListN.{length, get_or, take, drop, set, replicate, length-replicate, length-set, length-drop, drop_of_length-le}
+use lib.Seq.{drop-cons, take-suc-set, take_all}
 use borrow.Author.Tests.{eq-eqb, ne_eqb}
-use Rattle.text.specs.declared.numbers.Number.{Number}
-use Rattle.text.specs.declared.patterns.Figures.{Figures}
-use Rattle.text.specs.Numeral.{number, number_if, proper, leading, value}
-use Rattle.text.specs.Pattern.{fit, hashes, figures, padded, prepended, most_figures, hash}
+use Rattle.std.proofs.Common.{Option, Some, None}
+use Rattle.std.proofs.lemmas.Option.{none-some, same_Some}
+use Rattle.text.specs.Numeral.{number, proper, leading, value}
+use Rattle.text.specs.Pattern.{fit, hashes, prepended, hash}
 use Rattle.text.proofs.DigitLaws.{lead_length}
-use Rattle.text.proofs.StoreLaws.{overwritten_one}
 
-pub number_length : (most : ℕ) (s : List ℕ) (v d : ℕ) → number most s ≡ Number.Read v d → d ≤ length s
+pub number_length : (most : ℕ) (s : List ℕ) (v d : ℕ) → number most s ≡ Some (v, d) → d ≤ length s
 unfolding number
 number_length most s v d e = go (proper most (leading s)) e
   where
-    go : (b : Bool) → number_if b (value (leading s)) (length (leading s)) ≡ Number.Read v d → d ≤ length s
-    go true q = let z : length (leading s) ≡ d = cc in omega (arith, lead_length s)
-    go false q = let z : ◌≡◌ {A = ℕ} 0 1 = cc in omega arith
+    go : (b : Bool) → ◌≡◌ {A = Option (ℕ × ℕ)} (cond b (Some (value (leading s), length (leading s))) None) (Some (v, d)) → d ≤ length s
+    go true q = let z = same_Some _ _ q in let w : length (leading s) ≡ d = ap (λ (r : ℕ × ℕ). r.1) z in omega (arith, lead_length s)
+    go false q = absurd (none-some _ q)
+
+length_zero : (s : List ℕ) → length s ≡ 0 → s ≡ []
+length_zero [] e = refl
+length_zero (c ∷ s) e = absurd (omega (arith, e))
 
 prepended_twice : (a b : List ℕ) (o : Option (List ℕ)) → prepended a (prepended b o) ≡ prepended (a ++ b) o
-prepended_twice a b none = refl
-prepended_twice a b (some ns) = ap {B = Option (List ℕ)} some (sym (append_assoc a b ns))
+prepended_twice a b None = refl
+prepended_twice a b (Some ns) = ap {B = Option (List ℕ)} Some (sym (append_assoc a b ns))
 
 prepended_nil : (o : Option (List ℕ)) → o ≡ prepended [] o
-prepended_nil none = refl
-prepended_nil (some ns) = refl
+prepended_nil None = refl
+prepended_nil (Some ns) = refl
 
--- up to place i of a pattern p and place j of a text s, k numbers are read, and stand in n
-pub record Half (most : ℕ) (p s n : List ℕ) (k j i : ℕ) : Type 0 where
-  pub in_pattern : i ≤ length p
-  pub in_text : j ≤ length s
-  pub room : k + hashes (drop i p) ≤ most_figures
-  pub done : List ℕ
-  pub n_is : n ≡ padded done
-  pub k_is : k ≡ length done
-  pub rest : fit most p s ≡ prepended done (fit most (drop i p) (drop j s))
+-- up to place i of a pattern p, the first k numbers of n are read, and `rest` is left of a text s
+pub record Half (N most : ℕ) (p s n : List ℕ) (k : ℕ) (rest : List ℕ) (i : ℕ) : Type 0 where
+  pub wide : length n ≡ N
+  pub room : k + hashes (drop i p) ≡ N
+  pub goes : fit most p s ≡ prepended (take k n) (fit most (drop i p) rest)
 
--- the answer where a text does not fit
-abbrev pub unfit : Figures
-unfit = record { fits = false; n = replicate most_figures 0 }
+pub start : (most : ℕ) (p s : List ℕ) {N : ℕ} → hashes p ≡ N → Half N most p s (replicate N 0) 0 s 0
+start most p s {N} h =
+    record { wide = length-replicate N 0; room = omega (arith, h); goes = prepended_nil (fit most p s) }
 
-pub start : (most : ℕ) (p s : List ℕ) → hashes p ≤ most_figures → Half most p s (replicate most_figures 0) 0 0 0
-start most p s h =
-    record {
-      in_pattern = omega arith;
-      in_text = omega arith;
-      room = omega arith;
-      done = [];
-      n_is = refl;
-      k_is = refl;
-      rest = prepended_nil (fit most p s);
-    }
-
-module _ {most : ℕ} {p s n : List ℕ} {k j i : ℕ} (half : Half most p s n k j i) where
-  stops : fit most (drop i p) (drop j s) ≡ none → unfit ≡ figures most p s
-  unfolding figures
-  stops e = rw (half.rest, e)
+module _ {N most : ℕ} {p s n : List ℕ} {k : ℕ} {rest : List ℕ} {i : ℕ} (half : Half N most p s n k rest i) where
+  stops : fit most (drop i p) rest ≡ None → None ≡ fit most p s
+  stops e = sym (half.goes ∙ rw e)
 
   module _ (here : i < length p) where
     module _ (is-hash : get_or p i 0 ≡ hash) where
-      pub room_here : k < most_figures
+      left : hashes (drop i p) ≡ suc (hashes (drop (suc i) p))
       unfolding hashes
-      room_here =
-          let e : hashes (drop i p) ≡ suc (hashes (drop (suc i) p)) =
-          rw (drop-cons p i 0 here, eq-eqb _ hash is-hash) in
-          omega (arith, half.room)
+      left = rw (drop-cons p i 0 here, eq-eqb _ hash is-hash)
 
-      pub no_number : number most (drop j s) ≡ Number.Nothing → unfit ≡ figures most p s
+      pub room_here : k < N
+      room_here = omega (arith, half.room, left)
+
+      pub no_number : number most rest ≡ None → None ≡ fit most p s
       unfolding fit
       no_number e = stops (rw (drop-cons p i 0 here, eq-eqb _ hash is-hash, e))
 
       pub a_number :
-          (v d : ℕ) → number most (drop j s) ≡ Number.Read v d → Half most p s (set n k v) (k + 1) (j + d) (i + 1)
-      unfolding fit hashes
-      a_number v d e =
-          let q : fit most (drop i p) (drop j s) ≡ prepended (v ∷ []) (fit most (drop (suc i) p) (drop d (drop j s))) =
+          (v d : ℕ) {n' rest' : List ℕ} {k' : ℕ} → number most rest ≡ Some (v, d) → n' ≡ set n k v → k' ≡ k + 1
+          → rest' ≡ take (length rest - d) (drop d rest) → Half N most p s n' k' rest' (i + 1)
+      unfolding fit
+      a_number v d e f g h =
+          let q : fit most (drop i p) rest ≡ prepended (v ∷ []) (fit most (drop (suc i) p) (drop d rest)) =
           rw (drop-cons p i 0 here, eq-eqb _ hash is-hash, e) in
-          let l : hashes (drop i p) ≡ suc (hashes (drop (suc i) p)) =
-          rw (drop-cons p i 0 here, eq-eqb _ hash is-hash) in
+          let t : take (k + 1) (set n k v) ≡ take k n ++ (v ∷ []) =
+          rw (add-one k) (take-suc-set n k v (omega (arith, room_here, half.wide))) in
+          let r : take (length rest - d) (drop d rest) ≡ drop d rest =
+          take_all (length rest - d) (drop d rest) (omega (arith, length-drop d rest)) in
           record {
-            in_pattern = omega arith;
-            in_text = omega (arith, half.in_text, number_length most (drop j s) v d e, length-drop j s);
-            room = rw (add-one i) (omega (arith, half.room));
-            done = half.done ++ (v ∷ []);
-            n_is =
-                rw (half.n_is, half.k_is, ← zero-add (length half.done))
-                (overwritten_one half.done (replicate most_figures 0) 0 v);
-            k_is = rw length-append (omega (arith, half.k_is));
-            rest =
-                rw (half.rest, q, drop-drop, add-one i)
-                (prepended_twice half.done (v ∷ []) (fit most (drop (suc i) p) (drop (j + d) s)));
+            wide = rw f (length-set n k v ∙ half.wide);
+            room = rw (g, add-one i) (omega (arith, half.room, left));
+            goes = half.goes ∙ rw (q, f, g, h, t, r, add-one i) (prepended_twice (take k n) (v ∷ []) _);
           }
 
-    module _ (other : get_or p i 0 ≡ hash → ⊥) where
-      pub at_end : j ≡ length s → unfit ≡ figures most p s
+    module _ (no-hash : get_or p i 0 ≡ hash → ⊥) where
+      pub at_end : length rest ≡ 0 → None ≡ fit most p s
       unfolding fit
-      at_end e = stops (rw (drop-cons p i 0 here, ne_eqb _ hash other, drop_of_length-le s {i = j} (omega arith)))
+      at_end e = stops (rw (drop-cons p i 0 here, ne_eqb _ hash no-hash, length_zero rest e))
 
-      pub other_byte : j < length s → (get_or s j 0 ≡ get_or p i 0 → ⊥) → unfit ≡ figures most p s
-      unfolding fit
-      other_byte l e = stops (rw (drop-cons p i 0 here, ne_eqb _ hash other, drop-cons s j 0 l, ne_eqb _ _ e))
+      module _ {c : ℕ} {after : List ℕ} (read : rest ≡ c ∷ after) where
+        pub other_byte : (c ≡ get_or p i 0 → ⊥) → None ≡ fit most p s
+        unfolding fit
+        other_byte e = stops (rw (drop-cons p i 0 here, ne_eqb _ hash no-hash, read, ne_eqb _ _ e))
 
-      pub same_byte : j < length s → get_or s j 0 ≡ get_or p i 0 → Half most p s n k (j + 1) (i + 1)
-      unfolding fit hashes
-      same_byte l e =
-          let q : fit most (drop i p) (drop j s) ≡ fit most (drop (suc i) p) (drop (suc j) s) =
-          rw (drop-cons p i 0 here, ne_eqb _ hash other, drop-cons s j 0 l, eq-eqb _ _ e) in
-          let r : hashes (drop i p) ≡ hashes (drop (suc i) p) = rw (drop-cons p i 0 here, ne_eqb _ hash other) in
-          record {
-            in_pattern = omega arith;
-            in_text = omega arith;
-            room = rw (add-one i) (omega (arith, half.room));
-            done = half.done;
-            n_is = half.n_is;
-            k_is = half.k_is;
-            rest = rw (half.rest, q, add-one i, add-one j);
-          }
+        pub same_byte :
+            {n' rest' : List ℕ} {k' : ℕ} → c ≡ get_or p i 0 → n' ≡ n → k' ≡ k → rest' ≡ after
+            → Half N most p s n' k' rest' (i + 1)
+        unfolding fit hashes
+        same_byte e f g h =
+            let q : fit most (drop i p) rest ≡ fit most (drop (suc i) p) after =
+            rw (drop-cons p i 0 here, ne_eqb _ hash no-hash, read, eq-eqb _ _ e) in
+            let l : hashes (drop i p) ≡ hashes (drop (suc i) p) =
+            rw (drop-cons p i 0 here, ne_eqb _ hash no-hash) in
+            record {
+              wide = rw f half.wide;
+              room = rw (g, add-one i) (omega (arith, half.room, l));
+              goes = half.goes ∙ rw (q, f, g, h, add-one i);
+            }
 
-  module _ (over : length p ≤ i) where
-    pub more_text : j < length s → unfit ≡ figures most p s
+  module _ (done : length p ≤ i) where
+    pub more_text : (length rest ≡ 0 → ⊥) → None ≡ fit most p s
     unfolding fit
-    more_text l = stops (rw (drop_of_length-le p over, drop-cons s j 0 l))
+    more_text h = go rest h (λ e. stops e)
+      where
+        go : (r : List ℕ) → (length r ≡ 0 → ⊥) → (fit most (drop i p) r ≡ None → None ≡ fit most p s) → None ≡ fit most p s
+        go [] h f = absurd (h refl)
+        go (c ∷ r) h f = f (rw (drop_of_length-le p {i = i} done))
 
-    pub whole : length s ≤ j → record { fits = true; n = n } ≡ figures most p s
-    unfolding fit figures
-    whole l = rw (half.rest, drop_of_length-le p over, drop_of_length-le s l, append-nil, half.n_is)
+    pub whole : length rest ≡ 0 → Some n ≡ fit most p s
+    unfolding fit hashes
+    whole e =
+        let r : hashes (drop i p) ≡ 0 = rw (drop_of_length-le p {i = i} done) in
+        let t : take k n ≡ n = take_all k n (omega (arith, half.room, half.wide, r)) in
+        sym (half.goes ∙ rw (drop_of_length-le p {i = i} done, length_zero rest e, t, append-nil n))
+
+-- what the reader of a pattern needs, but for the step of its loop
+pub ruleset reads_pattern = (start, room_here, no_number, number_length, at_end, other_byte, more_text, whole)

@@ -4,13 +4,12 @@ use native.Mathlib.Nat.{pow-le-pow_right}
 use native.Mathlib.Omega.{arith}
 use mathlib.Core.Bool.{Bool, true, false, not, cond, ◌&&◌, false≢true}
 use mathlib.Core.Path.{◌≡◌, refl, sym, ap, ◌∙◌}
-use mathlib.Core.Option.{Option, none, some}
+use Rattle.std.proofs.Common.{Option, None, Some}
 use mathlib.Core.List.{List, [], ◌∷◌, ◌++◌}
 use lib.Dec.{eqb}
 use lib.ListN.{length, get_or, drop}
 use lib.Seq.{drop_at}
 use borrow.Author.Tests.{eqb-true, eq-eqb, not-true}
-use Rattle.text.specs.declared.numbers.Number.{Number}
 use Rattle.figuring.proofs.BoolLaws.{both}
 use Rattle.text.specs.Numeral.{number, numeral, digit, leading}
 use Rattle.text.specs.Pattern.{fit, filled, hashes, on_number, on_byte, prepended, hash}
@@ -23,10 +22,10 @@ pub record Fills (most : ℕ) (p s ns : List ℕ) : Type 0 where
   pub count : length ns ≡ hashes p
   pub small : Small most ns
 
-no_some : {X : Type 0} (ns : List ℕ) → ◌≡◌ {A = Option (List ℕ)} none (some ns) → X
+no_some : {X : Type 0} (ns : List ℕ) → ◌≡◌ {A = Option (List ℕ)} None (Some ns) → X
 no_some ns e = let z : ◌≡◌ {A = ℕ} 0 1 = cc in absurd (omega arith)
 
-pub fit_fills : (most : ℕ) → most ≤ 18 → (p s ns : List ℕ) → fit most p s ≡ some ns → Fills most p s ns
+pub fit_fills : (most : ℕ) → most ≤ 18 → (p s ns : List ℕ) → fit most p s ≡ Some ns → Fills most p s ns
 unfolding fit filled hashes
 fit_fills most m [] [] [] e = record { text = refl; count = refl; small = tt }
 fit_fills most m [] [] (n ∷ ns) e = let z : ◌≡◌ {A = ℕ} 0 1 = cc in absurd (omega arith)
@@ -34,14 +33,14 @@ fit_fills most m [] (c ∷ s) ns e = no_some ns e
 fit_fills most m (p ∷ ps) s ns e = go (eqb p 35) refl e (fit_fills most m ps)
   where
     byte :
-        (s : List ℕ) → on_byte p s (λ r. fit most ps r) ≡ some ns
-        → ((s ns : List ℕ) → fit most ps s ≡ some ns → Fills most ps s ns)
+        (s : List ℕ) → on_byte p s (λ r. fit most ps r) ≡ Some ns
+        → ((s ns : List ℕ) → fit most ps s ≡ Some ns → Fills most ps s ns)
         → (s ≡ p ∷ filled ps ns) × (length ns ≡ hashes ps) × Small most ns
     byte [] q ih = no_some ns q
     byte (c ∷ s) q ih = inner (eqb c p) refl q
       where
         inner :
-            (b : Bool) → eqb c p ≡ b → cond b (fit most ps s) none ≡ some ns
+            (b : Bool) → eqb c p ≡ b → cond b (fit most ps s) None ≡ Some ns
             → ((c ∷ s) ≡ p ∷ filled ps ns) × (length ns ≡ hashes ps) × Small most ns
         inner true a q =
             let f = ih s ns q in
@@ -49,28 +48,30 @@ fit_fills most m (p ∷ ps) s ns e = go (eqb p 35) refl e (fit_fills most m ps)
         inner false a q = no_some ns q
 
     front :
-        (v : ℕ) (o : Option (List ℕ)) (ns : List ℕ) → prepended (v ∷ []) o ≡ some ns
-        → (ms : List ℕ) × (o ≡ some ms) × (ns ≡ v ∷ ms)
-    front v none ns q = no_some ns q
-    front v (some ms) ns q = (ms, refl, (let z : v ∷ ms ≡ ns = cc in sym z))
+        (v : ℕ) (o : Option (List ℕ)) (ns : List ℕ) → prepended (v ∷ []) o ≡ Some ns
+        → (ms : List ℕ) × (o ≡ Some ms) × (ns ≡ v ∷ ms)
+    front v None ns q = no_some ns q
+    front v (Some ms) ns q = (ms, refl, (let z : v ∷ ms ≡ ns = cc in sym z))
 
     numb :
-        (m : Number) → number most s ≡ m → on_number m (λ v k. prepended (v ∷ []) (fit most ps (drop k s))) ≡ some ns
-        → ((s ns : List ℕ) → fit most ps s ≡ some ns → Fills most ps s ns)
+        (m : Option (ℕ × ℕ)) → number most s ≡ m → on_number m (λ v k. prepended (v ∷ []) (fit most ps (drop k s))) ≡ Some ns
+        → ((s ns : List ℕ) → fit most ps s ≡ Some ns → Fills most ps s ns)
         → (s ≡ numeral (get_or ns 0 0) ++ filled ps (drop 1 ns)) × (length ns ≡ suc (hashes ps)) × Small most ns
-    numb Number.Nothing a q ih = no_some ns q
-    numb (Number.Read v k) a q ih =
+    numb None a q ih = no_some ns q
+    numb (Some r) a q ih =
+        let v : ℕ = r.0 in
+        let k : ℕ = r.1 in
         let t = front v (fit most ps (drop k s)) ns q in
         let f = ih (drop k s) t.0 t.1 in
-        let r = read_is most s v k m a in
-        let x : s ≡ numeral v ++ filled ps t.0 = r.0 ∙ ap (λ (l : List ℕ). numeral v ++ l) f.text in
-        (rw t.2 x, rw t.2 (ap suc f.count), rw t.2 (r.1, f.small))
+        let i = read_is most s v k m a in
+        let x : s ≡ numeral v ++ filled ps t.0 = i.0 ∙ ap (λ (l : List ℕ). numeral v ++ l) f.text in
+        (rw t.2 x, rw t.2 (ap suc f.count), rw t.2 (i.1, f.small))
 
     go :
         (b : Bool) → eqb p hash ≡ b
         → cond b (on_number (number most s) (λ v k. prepended (v ∷ []) (fit most ps (drop k s))))
-        (on_byte p s (λ r. fit most ps r)) ≡ some ns
-        → ((s ns : List ℕ) → fit most ps s ≡ some ns → Fills most ps s ns)
+        (on_byte p s (λ r. fit most ps r)) ≡ Some ns
+        → ((s ns : List ℕ) → fit most ps s ≡ Some ns → Fills most ps s ns)
         → Fills most (p ∷ ps) s ns
     go true a q ih =
         let w = numb (number most s) refl q ih in
@@ -95,7 +96,7 @@ plain_stops (c ∷ s) ns e =
 
 pub fills_fit :
     (most : ℕ) → 0 < most → most ≤ 18 → (p ns : List ℕ) → separate p ≡ true → length ns ≡ hashes p → Small most ns
-    → fit most p (filled p ns) ≡ some ns
+    → fit most p (filled p ns) ≡ Some ns
 unfolding fit filled hashes separate
 fills_fit most o m [] [] e l h = refl
 fills_fit most o m [] (n ∷ ns) e l h = absurd (omega arith)
@@ -107,9 +108,9 @@ fills_fit most o m (p ∷ ps) ns e l h = go (eqb p hash) refl e l (fills_fit mos
         → length ns ≡ suc (hashes ps)
         → Small most ns
         → ((ns : List ℕ) → separate ps ≡ true → length ns ≡ hashes ps → Small most ns
-        → fit most ps (filled ps ns) ≡ some ns)
+        → fit most ps (filled ps ns) ≡ Some ns)
         → on_number (number most (numeral (get_or ns 0 0) ++ filled ps (drop 1 ns)))
-        (λ v k. prepended (v ∷ []) (fit most ps (drop k (numeral (get_or ns 0 0) ++ filled ps (drop 1 ns))))) ≡ some ns
+        (λ v k. prepended (v ∷ []) (fit most ps (drop k (numeral (get_or ns 0 0) ++ filled ps (drop 1 ns))))) ≡ Some ns
     numb [] e l h ih = absurd (omega arith)
     numb (n ∷ ns) e l h ih =
         let w = both (plain ps) (separate ps) e in
@@ -125,8 +126,8 @@ fills_fit most o m (p ∷ ps) ns e l h = go (eqb p hash) refl e l (fills_fit mos
         → (cond b (plain ps) true && separate ps) ≡ true
         → length ns ≡ cond b (suc (hashes ps)) (hashes ps)
         → ((ns : List ℕ) → separate ps ≡ true → length ns ≡ hashes ps → Small most ns
-        → fit most ps (filled ps ns) ≡ some ns)
-        → fit most (p ∷ ps) (filled (p ∷ ps) ns) ≡ some ns
+        → fit most ps (filled ps ns) ≡ Some ns)
+        → fit most (p ∷ ps) (filled (p ∷ ps) ns) ≡ Some ns
     go true a e l ih = rw a (numb ns e l h ih)
     go false a e l ih = rw (a, eq-eqb p p refl) (ih ns e l h)
 
@@ -140,13 +141,13 @@ apart (a ∷ p) (b ∷ q) =
     cond (eqb a hash) (cond (eqb b hash) (plain q && r) (not (digit b)))
     (not (eqb b hash) && cond (eqb b a) r true)
 
-no_number : (most b : ℕ) (s : List ℕ) → digit b ≡ false → number most (b ∷ s) ≡ Number.Nothing
+no_number : (most b : ℕ) (s : List ℕ) → digit b ≡ false → number most (b ∷ s) ≡ None
 unfolding number leading
 no_number most b s e = rw e
 
 -- a pattern does not fit what another, apart from it, is filled to
 module _ (most : ℕ) (o : 0 < most) (m : most ≤ 18) where
-  pub apart_unfit : (p q ns : List ℕ) → apart p q ≡ true → Small most ns → fit most p (filled q ns) ≡ none
+  pub apart_unfit : (p q ns : List ℕ) → apart p q ≡ true → Small most ns → fit most p (filled q ns) ≡ None
   unfolding fit filled apart
   apart_unfit [] q ns e h = absurd (false≢true e)
   apart_unfit (a ∷ p) [] ns e h = absurd (false≢true e)
@@ -154,9 +155,9 @@ module _ (most : ℕ) (o : 0 < most) (m : most ≤ 18) where
     where
       -- the number that both have is read, and the rest is apart
       shared :
-          (n : ℕ) (ns : List ℕ) → n < 10 ^ most → plain q ≡ true → fit most p (filled q ns) ≡ none
+          (n : ℕ) (ns : List ℕ) → n < 10 ^ most → plain q ≡ true → fit most p (filled q ns) ≡ None
           → on_number (number most (numeral n ++ filled q ns))
-          (λ v k. prepended (v ∷ []) (fit most p (drop k (numeral n ++ filled q ns)))) ≡ none
+          (λ v k. prepended (v ∷ []) (fit most p (drop k (numeral n ++ filled q ns)))) ≡ None
       shared n ns h e f =
           rw (
             numeral_read most n (filled q ns) o m h (plain_stops q ns e),
@@ -166,9 +167,9 @@ module _ (most : ℕ) (o : 0 < most) (m : most ≤ 18) where
 
       numb :
           (ns : List ℕ) → Small most ns → (plain q && apart p q) ≡ true
-          → ((ns : List ℕ) → apart p q ≡ true → Small most ns → fit most p (filled q ns) ≡ none)
+          → ((ns : List ℕ) → apart p q ≡ true → Small most ns → fit most p (filled q ns) ≡ None)
           → on_number (number most (numeral (get_or ns 0 0) ++ filled q (drop 1 ns)))
-          (λ v k. prepended (v ∷ []) (fit most p (drop k (numeral (get_or ns 0 0) ++ filled q (drop 1 ns))))) ≡ none
+          (λ v k. prepended (v ∷ []) (fit most p (drop k (numeral (get_or ns 0 0) ++ filled q (drop 1 ns))))) ≡ None
       numb [] h e ih =
           let w = both (plain q) (apart p q) e in
           let o = pow-le-pow_right {n = 10} (omega arith) {i = 0} {j = most} (omega arith) in
@@ -178,16 +179,16 @@ module _ (most : ℕ) (o : 0 < most) (m : most ≤ 18) where
           shared n ns h.0 w.0 (ih ns w.1 h.1)
 
       byte :
-          (x : Bool) → cond x (apart p q) true ≡ true → (apart p q ≡ true → fit most p (filled q ns) ≡ none)
-          → cond x (fit most p (filled q ns)) none ≡ none
+          (x : Bool) → cond x (apart p q) true ≡ true → (apart p q ≡ true → fit most p (filled q ns) ≡ None)
+          → cond x (fit most p (filled q ns)) None ≡ None
       byte true e ih = ih e
       byte false e ih = refl
 
       go :
           (x : Bool) → eqb a hash ≡ x → (y : Bool) → eqb b hash ≡ y
           → cond x (cond y (plain q && apart p q) (not (digit b))) (not y && cond (eqb b a) (apart p q) true) ≡ true
-          → ((ns : List ℕ) → apart p q ≡ true → Small most ns → fit most p (filled q ns) ≡ none)
-          → fit most (a ∷ p) (filled (b ∷ q) ns) ≡ none
+          → ((ns : List ℕ) → apart p q ≡ true → Small most ns → fit most p (filled q ns) ≡ None)
+          → fit most (a ∷ p) (filled (b ∷ q) ns) ≡ None
       go true u true v e ih = rw (u, v) (numb ns h e ih)
       go true u false v e ih = rw (u, v, no_number most b (filled q ns) (not-true (digit b) e))
       go false u true v e ih = absurd (false≢true e)

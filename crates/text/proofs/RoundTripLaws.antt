@@ -5,7 +5,7 @@ use native.Mathlib.Omega.{arith}
 use mathlib.Core.Bool.{Bool, true, false, cond}
 use mathlib.Core.Logic.{◌⊎◌, inl, inr}
 use mathlib.Core.Path.{◌≡◌, refl, sym, ap, subst, ◌∙◌}
-use mathlib.Core.Option.{Option, none, some}
+use Rattle.std.proofs.Common.{Option, None, Some}
 use mathlib.Core.List.{List, [], ◌∷◌}
 use lib.ListN.{get_or}
 use lib.IntN.{ℤ, pos, negsuc}
@@ -19,7 +19,6 @@ use Rattle.book.specs.declared.answers.Refusal.TheVariants.{UnsoundBook, NotABoo
 use Rattle.book.proofs.SoundnessLaws.{sound_is}
 use Rattle.text.specs.Gather.{gather}
 use Rattle.text.specs.declared.entries.Entry.{Entry}
-use Rattle.text.specs.Pattern.{figures}
 use Rattle.text.specs.Lines.{lines_from, lines_of}
 use Rattle.text.specs.Rendered.{Small}
 use Rattle.text.specs.Loads.{Read, accepted, refused}
@@ -42,7 +41,7 @@ use Rattle.text.proofs.WritableLaws.{sound_writable}
 -- ---- the lines of entries that rise are read as those entries
 lines_entered :
     (es : List Entry) (least : ℕ) (b : Book) → Rising Fine all_entries least es
-    → entered least b (lines_of (entry_lines es)) ≡ some (enter_all b es)
+    → entered least b (lines_of (entry_lines es)) ≡ Some (enter_all b es)
 unfolding entered enter_all entry_lines lines_from
 lines_entered [] least b h = refl
 lines_entered (e ∷ es) least b h =
@@ -102,13 +101,13 @@ module _ (b : Book) (s : Writable b) where
   unfolding book_text
   text_ends = feed_then true (open_line b.open_year) (entry_lines (entries b)) ∙ lines_end (entries b)
 
-  text_opens : book_in (lines_of (book_text b)) ≡ some b
-  unfolding book_text book_in figures
+  text_opens : book_in (lines_of (book_text b)) ≡ Some b
+  unfolding book_text book_in
   text_opens =
       rw (
         lines.ended (open_line b.open_year) (entry_lines (entries b)) (open_one b.open_year),
         open_read b.open_year s.year,
-      ) (lines_entered (entries b) 0 (empty_at b.open_year) rises ∙ ap some again)
+      ) (lines_entered (entries b) 0 (empty_at b.open_year) rises ∙ ap Some again)
 
 -- ---- both ways
 each : (b : Book) → Writable b → read_book (book_text b) ≡ cond (sound b) (accepted b) (refused UnsoundBook)
@@ -120,7 +119,7 @@ same_book b n w e = each b (sound_writable b n w (sound_is b e)) ∙ rw e
 
 -- an accepted book is the one that the text's lines make, and is sound
 record Judged (t : List ℕ) (b : Book) : Type 0 where
-  lines_make : only_if (all_ended t) (book_in (lines_of t)) ≡ some b
+  lines_make : only_if (all_ended t) (book_in (lines_of t)) ≡ Some b
   is_sound : sound b ≡ true
 
 accepted_is : (t : List ℕ) (b : Book) → read_book t ≡ accepted b → Judged t b
@@ -128,7 +127,7 @@ unfolding read_book
 accepted_is t b q = go (only_if (all_ended t) (book_in (lines_of t))) refl q
   where
     judge :
-        (c : Book) (e : Bool) → sound c ≡ e → only_if (all_ended t) (book_in (lines_of t)) ≡ some c
+        (c : Book) (e : Bool) → sound c ≡ e → only_if (all_ended t) (book_in (lines_of t)) ≡ Some c
         → ◌≡◌ {A = Read Book} (cond e (accepted c) (refused UnsoundBook)) (accepted b) → Judged t b
     judge c true e p q =
         let z : c ≡ b = cc in
@@ -136,8 +135,8 @@ accepted_is t b q = go (only_if (all_ended t) (book_in (lines_of t))) refl q
     judge c false e p q = let z : ◌≡◌ {A = ℕ} 0 1 = cc in absurd (omega arith)
 
     go : (o : Option Book) → only_if (all_ended t) (book_in (lines_of t)) ≡ o → judged o ≡ accepted b → Judged t b
-    go none p q = let z : ◌≡◌ {A = ℕ} 0 1 = cc in absurd (omega arith)
-    go (some c) p q = judge c (sound c) refl p q
+    go None p q = let z : ◌≡◌ {A = ℕ} 0 1 = cc in absurd (omega arith)
+    go (Some c) p q = judge c (sound c) refl p q
 
 same_bytes : (t : List ℕ) (b : Book) → read_book t ≡ accepted b → book_text b ≡ t
 same_bytes t b q = (text_is t b (accepted_is t b q).lines_make).text
@@ -153,8 +152,8 @@ unfolding read_book
 else_22 t h = go (only_if (all_ended t) (book_in (lines_of t))) refl
   where
     go : (o : Option Book) → only_if (all_ended t) (book_in (lines_of t)) ≡ o → judged o ≡ refused NotABook
-    go none p = refl
-    go (some b) p = let w = text_is t b p in absurd (h b w.writable w.text)
+    go None p = refl
+    go (Some b) p = let w = text_is t b p in absurd (h b w.writable w.text)
 
 refusals : (t : List ℕ) (r : Refusal) → read_book t ≡ refused r → (r ≡ NotABook) ⊎ (r ≡ UnsoundBook)
 unfolding read_book
@@ -167,8 +166,8 @@ refusals t r q = go (only_if (all_ended t) (book_in (lines_of t))) q
     judge c false q = let z : UnsoundBook ≡ r = cc in inr (sym z)
 
     go : (o : Option Book) → judged o ≡ refused r → (r ≡ NotABook) ⊎ (r ≡ UnsoundBook)
-    go none q = let z : NotABook ≡ r = cc in inl (sym z)
-    go (some c) q = judge c (sound c) q
+    go None q = let z : NotABook ≡ r = cc in inl (sym z)
+    go (Some c) q = judge c (sound c) q
 
 pub exact : Exact
 exact = record { each = each; else_22 = else_22; refusals = refusals }

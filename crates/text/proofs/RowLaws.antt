@@ -4,7 +4,7 @@ use Prim.Native.Nat.{ℕ, zero, suc, ◌^◌, ◌≤◌, ◌<◌}
 use native.Mathlib.Decide.{dec_le}
 use native.Mathlib.Omega.{arith}
 use mathlib.Core.Bool.{Bool, true, false, cond, ◌&&◌, ◌||◌}
-use mathlib.Core.Option.{Option, none, some}
+use Rattle.std.proofs.Common.{Option, None, Some}
 use mathlib.Core.Path.{◌≡◌, refl, ap}
 use mathlib.Core.List.{List, [], ◌∷◌}
 use lib.Dec.{ltb, leb, eqb, lit≤}
@@ -29,22 +29,22 @@ pub record IsRow (y : ℕ) (l row : List ℕ) : Type 0 where
   pub wide : length row ≡ grid_columns
   pub short : length l ≤ longest_line
 
-no_row_lem : {X : Type 0} {row : List ℕ} → ◌≡◌ {A = Option (List ℕ)} none (some row) → X
+no_row_lem : {X : Type 0} {row : List ℕ} → ◌≡◌ {A = Option (List ℕ)} None (Some row) → X
 no_row_lem e = let z : ◌≡◌ {A = ℕ} 0 1 = cc in absurd (omega arith)
 
-pub row_is : (y : ℕ) (l row : List ℕ) → row_in y l ≡ some row → IsRow y l row
+pub row_is : (y : ℕ) (l row : List ℕ) → row_in y l ≡ Some row → IsRow y l row
 unfolding row_in hashes
 row_is y l row e = long (ltb longest_line (length l)) refl e
   where
     figured :
-        (o : Option (List ℕ)) → fit most_digits std_form l ≡ o → of_year y o ≡ some row
+        (o : Option (List ℕ)) → fit most_digits std_form l ≡ o → of_year y o ≡ Some row
         → (l ≡ filled std_form (y ∷ row)) × (length row ≡ grid_columns)
-    figured none p q = no_row_lem q
-    figured (some []) p q = no_row_lem q
-    figured (some (n ∷ ns)) p q = dated (eqb n y) refl q
+    figured None p q = no_row_lem q
+    figured (Some []) p q = no_row_lem q
+    figured (Some (n ∷ ns)) p q = dated (eqb n y) refl q
       where
         dated :
-            (b : Bool) → eqb n y ≡ b → cond b (some ns) none ≡ some row
+            (b : Bool) → eqb n y ≡ b → cond b (Some ns) None ≡ Some row
             → (l ≡ filled std_form (y ∷ row)) × (length row ≡ grid_columns)
         dated true a q =
             let w = fit_fills most_digits (lit≤ tt) std_form l (n ∷ ns) p in
@@ -54,7 +54,7 @@ row_is y l row e = long (ltb longest_line (length l)) refl e
         dated false a q = no_row_lem q
 
     long :
-        (b : Bool) → ltb longest_line (length l) ≡ b → cond b none (of_year y (fit most_digits std_form l)) ≡ some row
+        (b : Bool) → ltb longest_line (length l) ≡ b → cond b None (of_year y (fit most_digits std_form l)) ≡ Some row
         → IsRow y l row
     long true p q = no_row_lem q
     long false p q =
@@ -64,10 +64,10 @@ row_is y l row e = long (ltb longest_line (length l)) refl e
 -- its text is short enough whatever its figures: 19 bytes, and 20 for each of the 7
 pub row_read :
     (y : ℕ) (row : List ℕ) → y < 10 ^ most_digits → Small most_digits row → length row ≡ grid_columns
-    → row_in y (filled std_form (y ∷ row)) ≡ some row
+    → row_in y (filled std_form (y ∷ row)) ≡ Some row
 unfolding row_in hashes separate
 row_read y row h s w =
-    let f : fit most_digits std_form (filled std_form (y ∷ row)) ≡ some (y ∷ row) =
+    let f : fit most_digits std_form (filled std_form (y ∷ row)) ≡ Some (y ∷ row) =
     fills_fit most_digits (lit≤ tt) (lit≤ tt) std_form (y ∷ row) refl (ap suc w) (h, s) in
     rw (
       le-ltb longest_line (length (filled std_form (y ∷ row))) (omega (arith, filled_length std_form (y ∷ row))),
@@ -86,7 +86,7 @@ row_cut y k l h = go (dec_le (length l) k)
         let e : length (take k l) ≡ k = length-take-le k l (omega arith) in
         rw (lt-ltb longest_line (length l) (omega arith), lt-ltb longest_line (length (take k l)) (omega arith))
 
-pub empty_line : (y : ℕ) → row_in y [] ≡ none
+pub empty_line : (y : ℕ) → row_in y [] ≡ None
 unfolding row_in fit
 empty_line y = refl
 

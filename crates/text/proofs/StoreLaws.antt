@@ -1,16 +1,16 @@
 -- A run of stores after a run of stores.
-use Prim.Native.Nat.{ℕ, suc, ◌+◌, ◌≤◌, ◌<◌}
+use Rattle.std.specs.Prelude.{Option, Some}
+use Prim.Native.Nat.{ℕ, suc, ◌+◌, ◌-◌, ◌≤◌}
 use native.Mathlib.Nat.{add-zero}
-use native.Mathlib.Numerals.{add-one}
 use native.Mathlib.Omega.{arith}
-use mathlib.Core.Bool.{Bool, true, false}
-use mathlib.Core.Path.{◌≡◌, sym, ap, ◌∙◌}
-use mathlib.Core.List.{List, [], ◌∷◌, ◌++◌}
-use lib.ListN.{length, get_or, set, take, drop, length-append}
-use lib.Seq.{sets as overwritten, sets-eq, take_at, take-suc, length-sets, length-take-le}
-use borrow.Author.Tests.{leb-true}
-use Rattle.text.specs.declared.placing.Placed.{Placed}
-use Rattle.text.specs.Placing.{Stands, Puts, room_for}
+use mathlib.Core.Bool.{Bool, true, false, cond}
+use mathlib.Core.Path.{◌≡◌, refl, sym, ap, ◌∙◌}
+use mathlib.Core.List.{List, [], ◌∷◌, ◌++◌, append_assoc}
+use lib.ListN.{length, set, take, drop, length-append}
+use lib.Seq.{sets as overwritten, sets-eq, take_at, length-sets, length-take-le}
+use borrow.Rule.Slice.PartMut.{put_mid, Post-is}
+use Rattle.text.specs.declared.page.Page.{Page}
+use Rattle.text.specs.Placing.{Stands, Puts, place_after, HasRoom, Adds}
 
 pub overwritten_append :
     (a b l : List ℕ) (i : ℕ) → overwritten (overwritten l i a) (i + length a) b ≡ overwritten l i (a ++ b)
@@ -19,31 +19,12 @@ overwritten_append (x ∷ a) b l i =
     let e : i + suc (length a) ≡ suc i + length a = omega arith in
     rw e (overwritten_append a b (set l i x) (suc i))
 
-pub overwritten_one :
-    (a l : List ℕ) (i v : ℕ) → set (overwritten l i a) (i + length a) v ≡ overwritten l i (a ++ (v ∷ []))
-overwritten_one a l i v = overwritten_append a (v ∷ []) l i
-
 pub take_overwritten :
     (vs l : List ℕ) (i : ℕ) → i + length vs ≤ length l → take (i + length vs) (overwritten l i vs) ≡ take i l ++ vs
 take_overwritten vs l i h =
     let e : length (take i l ++ vs) ≡ i + length vs =
     length-append (take i l) vs ∙ ap (λ (n : ℕ). n + length vs) (length-take-le i l (omega arith)) in
     rw (sets-eq vs l i h) (take_at (take i l ++ vs) (drop (i + length vs) l) (i + length vs) e)
-
--- a text copied up to i, and one byte more
-pub copied_more :
-    (text l out : List ℕ) (at i : ℕ) → i < length text → out ≡ overwritten l at (take i text)
-    → set out (at + i) (get_or text i 0) ≡ overwritten l at (take (i + 1) text)
-copied_more text l out at i h e =
-    let n : length (take i text) ≡ i = length-take-le i text (omega arith) in
-    let q : set (overwritten l at (take i text)) (at + length (take i text)) (get_or text i 0)
-    ≡ overwritten l at (take i text ++ (get_or text i 0 ∷ [])) = overwritten_one (take i text) l at (get_or text i 0) in
-    rw (add-one i, take-suc text i 0 h, e) (rw n at q)
-
--- a text by another name
-pub as_text :
-    {text text' out out' : List ℕ} {at r : ℕ} → text ≡ text' → Stands text at out r out' → Stands text' at out r out'
-as_text e h = rw (← e) h
 
 -- two texts, one after the other
 pub after_text :
@@ -63,28 +44,68 @@ at_front {text} {out} h l = rw (h.out_is, h.end_is) (take_overwritten text out 0
 pub same_long : {text out out' : List ℕ} {at r : ℕ} → Stands text at out r out' → length out' ≡ length out
 same_long {text} {out} {out'} {at} h = rw h.out_is (length-sets out at text)
 
--- ---- with room and without
-pub put_none :
-    {room : Bool} {text out : List ℕ} {at : ℕ} → room ≡ false → Puts room text at out
-    (record { fits = false; at = at }) out
-put_none e = record { fits_is = sym e; at_is = rw e; out_is = rw e }
+-- a text copied over a part of a buffer
+pub copied :
+    {text l part : List ℕ} {at end : ℕ} → end ≡ at + length text → end ≤ length l → part ≡ text
+    → Stands text at l end (put_mid at (end - at) l part)
+copied {text} {l} {part} {at} {end} e h same =
+    record {
+      end_is = e;
+      out_is =
+          rw (same, Post-is at end l (omega arith), e)
+          (sym (sets-eq text l at (omega arith) ∙ append_assoc (take at l) text (drop (at + length text) l)));
+    }
 
+-- ---- with room and without
 pub put_whole :
     {room : Bool} {text out out' : List ℕ} {at r : ℕ} → room ≡ true → Stands text at out r out'
-    → Puts room text at out (record { fits = true; at = r }) out'
-put_whole e h = record { fits_is = sym e; at_is = rw e h.end_is; out_is = rw e h.out_is }
+    → Puts room text at out (Some r) out'
+put_whole e h = record { place_is = rw (e, h.end_is); out_is = rw e h.out_is }
+
+-- a text that was put fitted, and stands in the buffer
+pub put_stands :
+    {room : Bool} {text out out' : List ℕ} {at r : ℕ} → Puts room text at out (Some r) out' → Stands text at out r out'
+put_stands {room} {text} {out} {out'} {at} {r} h = go room h.place_is h.out_is
+  where
+    go :
+        (b : Bool) → Some r ≡ place_after b at (length text) → out' ≡ cond b (overwritten out at text) out
+        → Stands text at out r out'
+    go true e o = record { end_is = cc; out_is = o }
+    go false e o = let z : ◌≡◌ {A = ℕ} 0 1 = cc in absurd (omega arith)
 
 -- for a caller whose buffer has the room
-pub put_stands :
-    {room : Bool} {text out out' : List ℕ} {at : ℕ} {r : Placed} → room ≡ true → Puts room text at out r out'
-    → Stands text at out r.at out'
-put_stands e h = record { end_is = rw e at h.at_is; out_is = rw e at h.out_is }
+pub put_some :
+    {room : Bool} {text out out' : List ℕ} {at : ℕ} {r : Option ℕ} → room ≡ true → Puts room text at out r out'
+    → r ≡ Some (at + length text)
+put_some e h = rw e at h.place_is
 
--- a text that fitted ends within the buffer
-pub fits_in :
-    {text out out' : List ℕ} {at : ℕ} {r : Placed} → Puts (room_for (length text) at out) text at out r out'
-    → r.fits ≡ true → r.at ≤ length out'
-fits_in {text} {out} {out'} {at} p f =
-    let e = sym p.fits_is ∙ f in
-    let s = put_stands e p in
-    omega (arith, s.end_is, same_long s, leb-true (at + length text) (length out) e)
+-- ---- on a page
+pub adds_nothing : {p : Page} {text : List ℕ} → text ≡ [] → Adds text p p
+adds_nothing e = rw e (record { same_buffer = refl; stands = record { end_is = omega arith; out_is = refl } })
+
+-- a text by another name
+pub adds_text : {text text' : List ℕ} {p q : Page} → text ≡ text' → Adds text p q → Adds text' p q
+adds_text e h = rw (← e) h
+
+-- two texts, one after the other
+pub adds_then : {a b : List ℕ} {p q r : Page} → Adds a p q → Adds b q r → Adds (a ++ b) p r
+adds_then h k = record { same_buffer = k.same_buffer ∙ h.same_buffer; stands = after_text h.stands k.stands }
+
+-- what of a page's room is left
+pub after_adds :
+    {text : List ℕ} {p q : Page} → Adds text p q
+    → (q.at ≡ p.at + length text) × (length q.out.now ≡ length p.out.now)
+after_adds h = (h.stands.end_is, same_long h.stands)
+
+-- a place within a buffer is the length of what stands before it
+pub in_bounds : (r : ℕ) (out : List ℕ) → r ≤ length out → (r ≤ length out) × (r ≡ length (take r out))
+in_bounds r out h = (h, sym (length-take-le r out h))
+
+-- a page's front, where it was begun at its start
+pub front :
+    {text : List ℕ} {p q : Page} → Adds text p q → p.at ≡ 0 → HasRoom (length text) p → take q.at q.out.now ≡ text
+front h z l = at_front (rw z at h.stands) (omega arith)
+
+pub written_room :
+    {text : List ℕ} {p q : Page} → Adds text p q → p.at ≡ 0 → HasRoom (length text) p → HasRoom 0 q
+written_room h z l = omega (arith, after_adds h)

@@ -3,7 +3,7 @@ use Prim.Native.Nat.{ℕ, zero, suc}
 use native.Mathlib.Omega.{arith}
 use mathlib.Core.Bool.{Bool, true, false}
 use mathlib.Core.Logic.{◌⊎◌, inl, inr}
-use mathlib.Core.Option.{Option, none, some}
+use Rattle.std.proofs.Common.{Option, None, Some}
 use mathlib.Core.Path.{◌≡◌, refl, sym, ap, subst, ◌∙◌}
 use mathlib.Core.List.{List, [], ◌∷◌, ◌++◌, append_assoc}
 use lib.ListN.{length}
@@ -45,19 +45,19 @@ record ReadOn (before : List ℕ) (o : Option (List ℕ)) (rest : List ℕ → R
   row : List ℕ
   rows : Table
   is : row ∷ rows ≡ t
-  line : o ≡ some row
+  line : o ≡ Some row
   fits : row_fits before row ≡ true
   after : rest row ≡ accepted rows
 
 read_on :
     (before : List ℕ) (o : Option (List ℕ)) (rest : List ℕ → Read Table) (t : Table) → on_row before o rest ≡ accepted t
     → ReadOn before o rest t
-read_on before none rest t e = not_read e
-read_on before (some row) rest t e = go (row_fits before row) refl (rest row) refl e
+read_on before None rest t e = not_read e
+read_on before (Some row) rest t e = go (row_fits before row) refl (rest row) refl e
   where
     go :
         (b : Bool) → row_fits before row ≡ b → (q : Read Table) → rest row ≡ q → on_fit b row q ≡ accepted t
-        → ReadOn before (some row) rest t
+        → ReadOn before (Some row) rest t
     go false f q p e = not_read e
     go true f (refused r) p e = not_read e
     go true f (accepted rows) p e =

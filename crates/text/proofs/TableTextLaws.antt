@@ -3,7 +3,7 @@ use Prim.Native.Nat.{ℕ, zero, suc, ◌+◌, ◌-◌, ◌*◌, ◌^◌, ◌≤�
 use native.Mathlib.Omega.{arith}
 use mathlib.Core.Bool.{Bool, true, false}
 use mathlib.Core.Logic.{◌⊎◌, inl, inr}
-use mathlib.Core.Option.{Option, none, some}
+use Rattle.std.proofs.Common.{Option, None, Some}
 use mathlib.Core.Path.{◌≡◌, refl, sym, ap, ap₂, ◌∙◌}
 use mathlib.Core.List.{List, [], ◌∷◌, ◌++◌, append-nil}
 use lib.Dec.{lit≤}
@@ -80,7 +80,7 @@ each_rows [] y before s h f w (inl e) = rw e
 each_rows [] y before s h f w (inr e) = absurd (omega (arith, simp length-append at (ap length e)))
 each_rows (row ∷ t) y before s h f w i =
     let r = first_row y s row t i in
-    let k : row_in y (filled std_form (y ∷ row)) ≡ some row =
+    let k : row_in y (filled std_form (y ∷ row)) ≡ Some row =
     row_read y row (omega arith) (row_small before row w.0 f.0) w.0 in
     ap (rows_from (suc (length t)) y before) r.1
     ∙ rw (k, f.0, each_rows t (suc y) row r.0 (omega arith) f.1 w.1 r.2)
@@ -98,8 +98,8 @@ OfTables r = (r ≡ NotATable) ⊎ (r ≡ UnfitTable)
 refused_on :
     (before : List ℕ) (o : Option (List ℕ)) (rest : List ℕ → Read Table) (r : Refusal)
     → ((row : List ℕ) → rest row ≡ refused r → OfTables r) → on_row before o rest ≡ refused r → OfTables r
-refused_on before none rest r ih e = let z : NotATable ≡ r = cc in inl (sym z)
-refused_on before (some row) rest r ih e = go (row_fits before row) (rest row) refl e
+refused_on before None rest r ih e = let z : NotATable ≡ r = cc in inl (sym z)
+refused_on before (Some row) rest r ih e = go (row_fits before row) (rest row) refl e
   where
     go : (b : Bool) (q : Read Table) → rest row ≡ q → on_fit b row q ≡ refused r → OfTables r
     go false q p e = let z : UnfitTable ≡ r = cc in inr (sym z)
@@ -135,8 +135,8 @@ decided (suc n) y before k s h =
         → rows_from n (suc y) row (lines_of (take k s)) ≡ rows_from n (suc y) row (lines_of s))
         → on_row before o (λ row. rows_from n (suc y) row (lines_of (after_line (take k s))))
         ≡ on_row before o (λ row. rows_from n (suc y) row (lines_of (after_line s)))
-    read none e ih = refl
-    read (some row) e ih =
+    read None e ih = refl
+    read (Some row) e ih =
         let i = (row_is y (first_line s) row e).short in
         ap (on_fit (row_fits before row) row)
         (ap (λ (l : List ℕ). rows_from n (suc y) row (lines_of l)) (after_cut k s (omega arith))

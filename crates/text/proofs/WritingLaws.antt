@@ -1,10 +1,13 @@
 -- What the writer puts: the line of a place, the groups one after the other, and the answer.
+use Rattle.std.specs.Prelude.{Option, Some, None, Ok, Err, ok_or}
 use Prim.Native.Nat.{ℕ, ◌+◌, ◌*◌, ◌/◌, ◌%◌, ◌^◌, ◌≤◌, ◌<◌}
+use native.Mathlib.Decide.{dec_le}
+use native.Mathlib.Nat.{zero-add}
 use native.Mathlib.Omega.{arith}
 use mathlib.Core.Bool.{Bool, true, false, true≢false}
 use mathlib.Core.Path.{◌≡◌, refl, sym, ap, ◌∙◌}
 use mathlib.Core.List.{List, [], ◌∷◌}
-use lib.Dec.{leb, T}
+use lib.Dec.{lit≤}
 use lib.IntN.{ℤ, pos, negsuc, nat_abs}
 use lib.ListN.{length, get_or, take}
 use lib.Seq.{sets as overwritten, length-sets}
@@ -12,45 +15,30 @@ use lib.Signed.{lt_z, mag}
 use mir.Syntax.{w64}
 use mir.Val.{to_z, of_z}
 use mir.Facts.{to_z-of_z}
-use borrow.Author.Tests.{ltb-true, ltb-false, lt-ltb, le-ltb, le-leb}
-use Rattle.figuring.specs.Years.{first_year}
-use Rattle.book.specs.Sizes.{sets, families, years, places, all_parts}
+use borrow.Author.Tests.{ltb-true, ltb-false, lt-ltb, le-ltb, le-leb, lt-leb}
+use Rattle.book.specs.Sizes.{sets, families, places, all_parts}
 use Rattle.book.specs.Ledger.{marked}
 use Rattle.book.specs.Soundness.{sound}
-use Rattle.book.specs.Refusals.{first_refusal}
+use Rattle.book.specs.Refusals.{Verdict, first_refusal}
 use Rattle.book.specs.Rules.{head_rows}
 use Rattle.book.specs.declared.ledger.Book.{Book}
-use Rattle.book.specs.declared.answers.Refusal.{Refusal}
 use Rattle.book.specs.declared.answers.Refusal.TheVariants.{UnsoundBook, ShortBuffer}
-use Rattle.book.specs.declared.answers.Verdict.{Verdict}
-use Rattle.book.specs.declared.answers.Verdict.TheVariants.{Accepted, Refuse}
 use Rattle.book.proofs.TableLaws.{cleared}
 use Rattle.text.specs.Gather.{gather}
 use Rattle.text.specs.declared.entries.Entry.{Entry}
-use Rattle.text.specs.declared.placing.Placed.{Placed}
-use Rattle.text.specs.declared.writing.Wrote.{Wrote}
+use Rattle.text.specs.declared.page.Page.{Page}
 use Rattle.text.specs.Pattern.{filled}
-use Rattle.text.specs.Placing.{Stands, Puts, room_for}
+use Rattle.text.specs.Placing.{Puts, room_for, HasRoom, Adds}
 use Rattle.text.specs.Listing.{entry_room}
 use Rattle.text.specs.Entries.{family_entry, family_at}
 use Rattle.text.specs.BookText.{family, family_below, lot, short, entry_line, entry_lines, open_form, open_line}
 use Rattle.text.specs.BookText.{book_text, book_room}
 use Rattle.text.specs.Writing.{writing_rows, writing, wrote_by, buffer_by, wrote_of, buffer_after}
 use Rattle.text.specs.Writing.{family_line, mg_text, mg_line}
-use Rattle.text.proofs.FillLaws.{filled_zeros}
-use Rattle.text.proofs.StoreLaws.{as_text, after_text, same_long, at_front}
-use Rattle.text.proofs.BookRoomLaws.{ended, filled_ended, text_is, open_length, families_length, mgs_length, longest}
+use Rattle.text.proofs.StoreLaws.{adds_text, adds_then, after_adds, at_front}
+use Rattle.text.proofs.BookRoomLaws.{ended, filled_ended, text_is, open_length, families_length, mgs_length}
 
 -- ---- the line of a place
-pub nothing_put : {text out : List ℕ} {at : ℕ} → text ≡ [] → Stands text at out at out
-nothing_put e = rw e (record { end_is = omega arith; out_is = refl })
-
--- a line with its line feed, as it is put: with zeros after its four figures
-with_zeros :
-    (p : List ℕ) (a b c d : ℕ)
-    → filled p (a ∷ b ∷ c ∷ d ∷ 0 ∷ 0 ∷ 0 ∷ 0 ∷ 0 ∷ 0 ∷ 0 ∷ 0 ∷ []) ≡ filled p (a ∷ b ∷ c ∷ d ∷ [])
-with_zeros p a b c d = filled_zeros p (a ∷ b ∷ c ∷ d ∷ []) 8
-
 module _ (mark : ℕ) (z : ℤ) (i : ℕ) where
   pub no_family : marked mark (i % families) ≡ false → entry_lines (family_entry mark z i) ≡ []
   unfolding entry_lines
@@ -58,7 +46,7 @@ module _ (mark : ℕ) (z : ℤ) (i : ℕ) where
 
   module _ (n : ℕ) (h : marked mark (i % families) ≡ true) (e : n ≡ nat_abs z) where
     abbrev put : List ℕ → List ℕ
-    put p = filled p (i / families / sets ∷ i / families % sets ∷ i % families ∷ n ∷ 0 ∷ 0 ∷ 0 ∷ 0 ∷ 0 ∷ 0 ∷ 0 ∷ 0 ∷ [])
+    put p = filled p (i / families / sets ∷ i / families % sets ∷ i % families ∷ n ∷ [])
 
     abbrev entry : ℤ → Entry
     entry z = Entry.Family (i / families / sets) (i / families % sets) (i % families) z
@@ -69,7 +57,7 @@ module _ (mark : ℕ) (z : ℤ) (i : ℕ) where
 
     pub family_below_lem : lt_z z (pos 0) ≡ true → put (ended family_below.pattern) ≡ entry_lines (family_entry mark z i)
     family_below_lem l =
-        with_zeros (ended family_below.pattern) _ _ _ _ ∙ filled_ended family_below.pattern _ ∙ go z e l ∙ one_family
+        filled_ended family_below.pattern _ ∙ go z e l ∙ one_family
       where
         go :
             (z : ℤ) → n ≡ nat_abs z → lt_z z (pos 0) ≡ true
@@ -80,7 +68,7 @@ module _ (mark : ℕ) (z : ℤ) (i : ℕ) where
 
     pub family_above : lt_z z (pos 0) ≡ false → put (ended family.pattern) ≡ entry_lines (family_entry mark z i)
     family_above l =
-        with_zeros (ended family.pattern) _ _ _ _ ∙ filled_ended family.pattern _ ∙ go z e l ∙ one_family
+        filled_ended family.pattern _ ∙ go z e l ∙ one_family
       where
         go :
             (z : ℤ) → n ≡ nat_abs z → lt_z z (pos 0) ≡ false
@@ -89,144 +77,110 @@ module _ (mark : ℕ) (z : ℤ) (i : ℕ) where
         go (pos k) e l = rw e
         go (negsuc k) e l = absurd (true≢false l)
 
--- a pattern's test, as a caller has it
-pub short_enough : (p : List ℕ) → leb (length p + 26) entry_room ≡ true → T (leb (length p + 26) entry_room)
-short_enough p e = rw e tt
-
-module _ (p : List ℕ) (mg i : ℕ) where
-  pub no_mg : mg ≡ 0 → mg_text p mg i ≡ []
-  no_mg h = rw h
-
-  pub one_mg :
-      0 < mg
-      → filled p
-      (i / years / sets ∷ i / years % sets ∷ (first_year + i % years) ∷ mg ∷ 0 ∷ 0 ∷ 0 ∷ 0 ∷ 0 ∷ 0 ∷ 0 ∷ 0 ∷ [])
-      ≡ mg_text p mg i
-  one_mg h = with_zeros p _ _ _ _ ∙ rw (lt-ltb 0 mg h)
-
 -- ---- as a loop hears of it
-pub family_stands :
-    (marks : List ℕ) (parts : List ℤ) (i : ℕ) {at r : ℕ} {out out' : List ℕ}
+pub family_adds :
+    (marks : List ℕ) (parts : List ℤ) (i : ℕ) {a b : Page}
     → mag (get_or parts i (pos 0)) < 2 ^ 63
-    → Stands (entry_lines (family_entry (get_or marks (i / families) 0) (to_z w64 (of_z w64 (get_or parts i (pos 0)))) i)) at
-    out r out'
-    → Stands (family_line marks parts i) at out r out'
+    → Adds (entry_lines (family_entry (get_or marks (i / families) 0) (to_z w64 (of_z w64 (get_or parts i (pos 0)))) i)) a b
+    → Adds (family_line marks parts i) a b
 unfolding family_line family_at
-family_stands marks parts i g h =
-    as_text
-    (ap (λ (z : ℤ). entry_lines (family_entry (get_or marks (i / families) 0) z i)) (to_z-of_z {w = w64} (record { sfits = g }))) h
+family_adds marks parts i g h =
+    adds_text
+    (ap (λ (z : ℤ). entry_lines (family_entry (get_or marks (i / families) 0) z i)) (to_z-of_z {w = w64} (record { sfits = g })))
+    h
 
-pub mg_stands :
-    (p l : List ℕ) (i : ℕ) {at r : ℕ} {out out' : List ℕ} → Stands (mg_text p (get_or l i 0) i) at out r out'
-    → Stands (mg_line p l i) at out r out'
+pub mg_adds :
+    (p l : List ℕ) (i : ℕ) {a b : Page} → Adds (mg_text p (get_or l i 0) i) a b → Adds (mg_line p l i) a b
 unfolding mg_line
-mg_stands p l i h = h
+mg_adds p l i h = h
 
 -- ---- the groups, one after the other
-pub open_stands :
-    (y : ℕ) {l o : List ℕ} {w : ℕ}
-    → Stands (filled (ended open_form) (y ∷ 0 ∷ 0 ∷ 0 ∷ 0 ∷ 0 ∷ 0 ∷ 0 ∷ 0 ∷ 0 ∷ 0 ∷ 0 ∷ [])) 0 l w o
-    → Stands (ended (open_line y)) 0 l w o
-open_stands y h = as_text (filled_zeros (ended open_form) (y ∷ []) 11 ∙ filled_ended open_form (y ∷ [])) h
+pub open_adds :
+    (y : ℕ) {a b : Page} → Adds (filled (ended open_form) (y ∷ [])) a b → Adds (ended (open_line y)) a b
+open_adds y h = adds_text (filled_ended open_form (y ∷ [])) h
 
-module _ (b : Book) {l o₁ : List ℕ} {w₁ : ℕ} (room : book_room ≤ length l)
-    (h₁ : Stands (ended (open_line b.open_year)) 0 l w₁ o₁) where
-  pub families_room : w₁ + all_parts * entry_room ≤ length o₁
-  families_room = omega (arith, h₁.end_is, same_long h₁, open_length b.open_year)
+module _ (b : Book) {p₀ p₁ : Page} (room : HasRoom book_room p₀) (h₁ : Adds (ended (open_line b.open_year)) p₀ p₁) where
+  pub families_room : HasRoom (all_parts * entry_room) p₁
+  families_room = omega (arith, after_adds h₁, open_length b.open_year)
 
-  module _ {o₂ : List ℕ} {w₂ : ℕ} (h₂ : Stands (gather all_parts (family_line b.marks b.parts)) w₁ o₁ w₂ o₂) where
-    pub lots_room : w₂ + places * entry_room ≤ length o₂
+  module _ {p₂ : Page} (h₂ : Adds (gather all_parts (family_line b.marks b.parts)) p₁ p₂) where
+    pub lots_room : HasRoom (places * entry_room) p₂
     lots_room =
-        omega (
-          arith,
-          h₁.end_is,
-          same_long h₁,
-          open_length b.open_year,
-          h₂.end_is,
-          same_long h₂,
-          families_length b.marks b.parts,
-        )
+        omega (arith, after_adds h₁, open_length b.open_year, after_adds h₂, families_length b.marks b.parts)
 
-    module _ {o₃ : List ℕ} {w₃ : ℕ} (h₃ : Stands (gather places (mg_line (ended lot.pattern) b.lots)) w₂ o₂ w₃ o₃)
-      where
-        pub shortages_room : w₃ + places * entry_room ≤ length o₃
-        shortages_room =
-            omega (
-              arith,
-              h₁.end_is,
-              same_long h₁,
-              open_length b.open_year,
-              h₂.end_is,
-              same_long h₂,
-              families_length b.marks b.parts,
-              h₃.end_is,
-              same_long h₃,
-              mgs_length (ended lot.pattern) b.lots tt,
-            )
+    module _ {p₃ : Page} (h₃ : Adds (gather places (mg_line (ended lot.pattern) b.lots)) p₂ p₃) where
+      pub shortages_room : HasRoom (places * entry_room) p₃
+      shortages_room =
+          omega (
+            arith,
+            after_adds h₁,
+            open_length b.open_year,
+            after_adds h₂,
+            families_length b.marks b.parts,
+            after_adds h₃,
+            mgs_length (ended lot.pattern) b.lots (lit≤ tt),
+          )
 
-        pub whole :
-            {w₄ : ℕ} {o₄ : List ℕ} → Stands (gather places (mg_line (ended short.pattern) b.shortages)) w₃ o₃ w₄ o₄
-            → Stands (book_text b) 0 l w₄ o₄
-        whole h₄ = as_text (sym (text_is b)) (after_text h₁ (after_text h₂ (after_text h₃ h₄)))
+      pub whole :
+          {p₄ : Page} → Adds (gather places (mg_line (ended short.pattern) b.shortages)) p₃ p₄
+          → Adds (book_text b) p₀ p₄
+      whole h₄ = adds_text (sym (text_is b)) (adds_then h₁ (adds_then h₂ (adds_then h₃ h₄)))
 
--- ---- the verdict, row by row
-module _ (text room : ℕ) where
-  pub unsound : (is_sound : Bool) → is_sound ≡ false → Refuse UnsoundBook ≡ first_refusal (writing_rows is_sound text room)
-  unfolding writing_rows head_rows
-  unsound is_sound e = rw e
+-- ---- the answer, row by row
+module _ (b : Book) (out : List ℕ) where
+  pub unsound : sound b ≡ false → (Err UnsoundBook ≡ wrote_of b out) × (out ≡ buffer_after b out)
+  unfolding writing writing_rows head_rows
+  unsound e = rw e (refl, refl)
 
-  pub too_short :
-      (is_sound : Bool) → is_sound ≡ true → room < text
-      → Refuse ShortBuffer ≡ first_refusal (writing_rows is_sound text room)
-  unfolding writing_rows head_rows
-  too_short is_sound e h = rw (e, lt-ltb room text h)
+  too_short :
+      sound b ≡ true → length out < length (book_text b)
+      → (Err ShortBuffer ≡ wrote_of b out) × (out ≡ buffer_after b out)
+  unfolding writing writing_rows head_rows
+  too_short e h = rw (e, lt-ltb (length out) (length (book_text b)) h) (refl, refl)
 
-  pub written :
-      (is_sound : Bool) → is_sound ≡ true → text ≤ room → Accepted ≡ first_refusal (writing_rows is_sound text room)
-  unfolding writing_rows head_rows
-  written is_sound e h = rw (e, le-ltb room text h)
+  fits :
+      sound b ≡ true → length (book_text b) ≤ length out
+      → (Ok (length (book_text b)) ≡ wrote_of b out) × (overwritten out 0 (book_text b) ≡ buffer_after b out)
+  unfolding writing writing_rows head_rows
+  fits e h = rw (e, le-ltb (length out) (length (book_text b)) h) (refl, refl)
 
-  -- where it is accepted there is room
-  pub has_room : (is_sound : Bool) → first_refusal (writing_rows is_sound text room) ≡ Accepted → text ≤ room
-  unfolding writing_rows head_rows
-  has_room is_sound e = ltb-false room text (cleared (writing_rows is_sound text room) e).1.0
+  -- of a sound book, it is where the text was put
+  pub put_or_not :
+      {r : Option ℕ} {out' : List ℕ} → sound b ≡ true
+      → Puts (room_for (length (book_text b)) 0 out) (book_text b) 0 out r out'
+      → (ok_or r ShortBuffer ≡ wrote_of b out) × (out' ≡ buffer_after b out)
+  put_or_not {r} {out'} e h = go (dec_le (length (book_text b)) (length out))
+    where
+      go : Dec (length (book_text b) ≤ length out) → (ok_or r ShortBuffer ≡ wrote_of b out) × (out' ≡ buffer_after b out)
+      go (yes l) =
+          let g : room_for (length (book_text b)) 0 out ≡ true = le-leb (0 + length (book_text b)) (length out) (omega arith) in
+          let p : r ≡ Some (0 + length (book_text b)) = rw g at h.place_is in
+          let o : out' ≡ overwritten out 0 (book_text b) = rw g at h.out_is in
+          rw (p, o, zero-add) (fits e l)
+      go (no l) =
+          let g : room_for (length (book_text b)) 0 out ≡ false = lt-leb (0 + length (book_text b)) (length out) (omega arith) in
+          let p : r ≡ None = rw g at h.place_is in
+          let o : out' ≡ out = rw g at h.out_is in
+          rw (p, o) (too_short e (omega arith))
 
--- ---- the answer
-module _ (b : Book) (out : List ℕ) {v : Verdict} {n : ℕ} (v-is : v ≡ first_refusal (writing_rows (sound b) n (length out)))
-    (n_is : n ≡ length (book_text b)) where
-  verdict_is : writing b out ≡ v
-  unfolding writing
-  verdict_is = rw (← n_is) (sym v-is)
-
-  pub refuses : {r : Refusal} → v ≡ Refuse r → (Wrote.Refused r ≡ wrote_of b out) × (out ≡ buffer_after b out)
-  refuses e = rw (verdict_is, e) (refl, refl)
-
-  module _ {text text' out' : List ℕ} {p : Placed} (long : book_room ≤ length text)
-      (h : Stands (book_text b) 0 text n text')
-      (q : Puts (room_for (length (take n text')) 0 out) (take n text') 0 out p out') where
-    front : take n text' ≡ book_text b
-    front = at_front h (omega (arith, longest b))
-
-    pub writes : v ≡ Accepted → (Wrote.Length n ≡ wrote_of b out) × (out' ≡ buffer_after b out)
-    writes e =
-        let r : n ≤ length out = has_room n (length out) (sound b) (sym v-is ∙ e) in
-        let g : room_for (length (take n text')) 0 out ≡ true =
-        le-leb (0 + length (take n text')) (length out) (omega (arith, ap length front)) in
-        let o : out' ≡ overwritten out 0 (take n text') = rw g at q.out_is in
-        rw (verdict_is, e) (ap {B = Wrote} Wrote.Length n_is, o ∙ ap (overwritten out 0) front)
+-- where it is accepted there is room
+has_room :
+    (text room : ℕ) (is_sound : Bool) → first_refusal (writing_rows is_sound text room) ≡ Ok tt → text ≤ room
+unfolding writing_rows head_rows
+has_room text room is_sound e = ltb-false room text (cleared (writing_rows is_sound text room) e).1.0
 
 -- what a caller can lend on: the text stands at the buffer's start
 pub written_front :
-    (b : Book) (out : List ℕ) (n : ℕ) → wrote_of b out ≡ Wrote.Length n
+    (b : Book) (out : List ℕ) (n : ℕ) → wrote_of b out ≡ Ok n
     → (n ≤ length (buffer_after b out)) × (take n (buffer_after b out) ≡ book_text b)
 unfolding writing
 written_front b out n e = go (writing b out) refl e
   where
     go :
-        (v : Verdict) → writing b out ≡ v → wrote_by v (book_text b) ≡ Wrote.Length n
+        (v : Verdict) → writing b out ≡ v → wrote_by v (book_text b) ≡ Ok n
         → (n ≤ length (buffer_by v (book_text b) out)) × (take n (buffer_by v (book_text b) out) ≡ book_text b)
-    go (Refuse r) p e = let z : ◌≡◌ {A = ℕ} 0 1 = cc in absurd (omega arith)
-    go Accepted p e =
+    go (Err r) p e = let z : ◌≡◌ {A = ℕ} 0 1 = cc in absurd (omega arith)
+    go (Ok u) p e =
         let l : length (book_text b) ≡ n = cc in
         let r : length (book_text b) ≤ length out = has_room (length (book_text b)) (length out) (sound b) p in (
           omega (arith, length-sets out 0 (book_text b)),

@@ -1,20 +1,16 @@
 -- Document 01: "answers each line with `(ok ..)` with the results in the order above or `(no N)`".
-use Rattle.std.specs.Prelude.{ℕ, zero, suc, ◌≡◌, List, [], ◌∷◌, ◌++◌, ℤ, pos, negsuc}
+use Rattle.std.specs.Prelude.{ℕ, zero, suc, ◌≡◌, List, [], ◌∷◌, ◌++◌, ℤ, pos, negsuc, Option, Some, None}
 use Rattle.book.specs.declared.ledger.Book.{Book}
 use Rattle.book.specs.declared.kinds.Call.{Call}
 use Rattle.book.specs.declared.answers.Posted.{Posted}
 use Rattle.book.specs.declared.answers.Refusal.{Refusal}
-use Rattle.book.specs.declared.answers.Answer.{Answer}
-use Rattle.book.specs.Refusals.{refusal_in, values_in}
+use Rattle.book.specs.Refusals.{Answered, refusal_in, values_in}
 use Rattle.figuring.specs.Tables.{Table}
 use Rattle.book.specs.Rules.{posted, refused_with}
-use Rattle.text.specs.declared.lines.Line.{Line}
-use Rattle.text.specs.declared.answering.Step.{Step}
 use Rattle.text.specs.Ascii.{ascii}
 use Rattle.text.specs.Numeral.{numeral}
 use Rattle.text.specs.Line.{line_of}
 use Rattle.text.specs.Rendered.{IsText, NoText}
-use Rattle.text.specs.Placing.{Stands}
 
 -- no answer's line is longer
 abbrev pub answer_room : ℕ
@@ -36,14 +32,14 @@ said_for zero vs = ascii "(ok" ++ spaced vs (ascii ")\n")
 said_for (suc n) vs = ascii "(no " ++ (numeral (suc n) ++ ascii ")\n")
 
 -- an answer's line: the book layer says which number and which values a case has
-unfoldable pub text_of : Answer → List ℕ
+unfoldable pub text_of : Answered → List ℕ
 text_of a = said_for (refusal_in a) (values_in a)
 
 -- what a line gives that is read so, with a table of standards: the book layer's outcome; or refusal 1, "the line isn't
 -- one of the forms", and the book unchanged
-abbrev pub posted_line : Table → Book → Line → Posted
-posted_line t b Line.NoForm = refused_with b Refusal.NotAForm
-posted_line t b (Line.Form c) = posted t b c
+abbrev pub posted_line : Table → Book → Option Call → Posted
+posted_line t b None = refused_with b Refusal.NotAForm
+posted_line t b (Some c) = posted t b c
 
 -- a line answered with a table and a book: its answer, and the book after it, for any bytes, any table and any book
 unfoldable pub answer_to : Table → Book → List ℕ → Posted
@@ -53,8 +49,3 @@ answer_to t b s = posted_line t b (line_of s)
 pub record ByText : Type 0 where
   pub form : (t : Table) (b : Book) (s : List ℕ) (c : Call) → IsText s c → answer_to t b s ≡ posted t b c
   pub no_form : (t : Table) (b : Book) (s : List ℕ) → NoText s → answer_to t b s ≡ refused_with b Refusal.NotAForm
-
--- a line answered into a buffer: the book after it, and the answer's text from at on
-pub record Answered (t : Table) (b : Book) (s out : List ℕ) (at : ℕ) (r : Step) (out' : List ℕ) : Type 0 where
-  pub book_is : r.book ≡ (answer_to t b s).book
-  pub stands : Stands (text_of (answer_to t b s).answer) at out r.at out'

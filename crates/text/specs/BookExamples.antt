@@ -1,6 +1,5 @@
 -- What lies at the edges of a book's text: which line is an entry, and which text is none.
-use Rattle.std.specs.Prelude.{ℕ, Bool, true, false, ◌≡◌, List, [], ◌∷◌, pos}
-use Rattle.std.proofs.Math.Option.{none, some}
+use Rattle.std.specs.Prelude.{ℕ, Bool, true, false, ◌≡◌, List, [], ◌∷◌, pos, None, Some}
 use Rattle.figuring.specs.Units.{neg}
 use Rattle.book.specs.Rules.{numbers}
 use Rattle.book.specs.declared.ledger.Book.{Book}
@@ -15,10 +14,10 @@ use Rattle.text.specs.BookReading.{entry_of, entered, read_book}
 
 infix 10 ◌says◌
 abbrev pub ◌says◌ : List ℕ → Entry → Type 0
-s says e = entry_of s ≡ some e
+s says e = entry_of s ≡ Some e
 
 abbrev pub NoEntry : List ℕ → Type 0
-NoEntry s = entry_of s ≡ none
+NoEntry s = entry_of s ≡ None
 
 abbrev pub NoBook : List ℕ → Type 0
 NoBook t = read_book t ≡ refused NotABook
@@ -54,8 +53,8 @@ pub record BookEdges : Type 0 where
   pub last_year : in_book (Entry.Shortage 0 0 2037 1) ≡ true
   pub year_after : in_book (Entry.Shortage 0 0 2038 1) ≡ false
   -- whatever the book, a line that is repeated or out of order
-  pub repeated : (b : Book) → entered 0 b (ascii "(lot 0 0 2014 5)" ∷ ascii "(lot 0 0 2014 5)" ∷ []) ≡ none
-  pub group_before : (b : Book) → entered 0 b (ascii "(short 0 0 2014 5)" ∷ ascii "(lot 7 3 2037 5)" ∷ []) ≡ none
+  pub repeated : (b : Book) → entered 0 b (ascii "(lot 0 0 2014 5)" ∷ ascii "(lot 0 0 2014 5)" ∷ []) ≡ None
+  pub group_before : (b : Book) → entered 0 b (ascii "(short 0 0 2014 5)" ∷ ascii "(lot 7 3 2037 5)" ∷ []) ≡ None
   -- texts
   pub empty : NoBook []
   pub no_line_feed : NoBook (ascii "(open 2014)")

@@ -1,12 +1,13 @@
 -- The terminal as it takes its input byte by byte. It has one table of standards for its whole run, so the table stands
 -- beside it: t, and x is the terminal.
-use Rattle.std.specs.Prelude.{ℕ, ◌≤◌, Bool, true, false, cond, ◌≡◌, List, [], ◌∷◌, ◌++◌, ltb, eqb, length, take, replicate}
+use Rattle.std.specs.Prelude.{ℕ, ◌≤◌, Bool, true, false, cond, ◌≡◌, List, [], ◌∷◌, ◌++◌, ltb, eqb, length, take, Option, MatchOption, is_some}
 use Rattle.std.proofs.lemmas.List.Edits.{sets as overwritten}
 use Rattle.figuring.specs.Tables.{Table}
 use Rattle.book.specs.declared.ledger.Book.{Book}
 use Rattle.text.specs.declared.desk.Desk.{Desk}
-use Rattle.text.specs.declared.desk.Reply.{Reply}
+use Rattle.text.specs.declared.page.Page.{Page}
 use Rattle.text.specs.Answers.{text_of, answer_to}
+use Rattle.text.specs.Placing.{Adds}
 
 -- a terminal: its book, the bytes of the line that has not ended yet, and what it has said
 pub record Terminal : Type 0 where
@@ -23,13 +24,11 @@ abbrev pub line_feed : ℕ
 line_feed = 10
 
 -- a byte that goes on with a line
+abbrev pub held_with : List ℕ → ℕ → List ℕ
+held_with held b = cond (ltb (length held) most_held) (held ++ (b ∷ [])) held
+
 abbrev pub holding : Terminal → ℕ → Terminal
-holding x b =
-    record {
-      book = x.book;
-      held = cond (ltb (length x.held) most_held) (x.held ++ (b ∷ [])) x.held;
-      said = x.said;
-    }
+holding x b = record { book = x.book; held = held_with x.held b; said = x.said }
 
 -- the end of a line
 abbrev pub answering : Table → Terminal → Terminal
@@ -55,52 +54,51 @@ terminal_if false a b = b
 abbrev pub ends : Table → Terminal → Terminal
 ends t x = terminal_if (ltb 0 (length x.held)) (answering t x) x
 
--- a terminal that holds the first len bytes of an array
-abbrev pub holding_first : Book → List ℕ → ℕ → List ℕ → Terminal
-holding_first b held len said = record { book = b; held = take len held; said = said }
-
--- a desk as a terminal that has said nothing yet, whatever its length says
+-- a desk as a terminal that has said nothing yet
 abbrev pub at_desk : Desk → Terminal
-at_desk d = holding_first d.book d.held d.len []
+at_desk d = record { book = d.book; held = d.held; said = [] }
 
 abbrev pub open_desk : Book → Desk
-open_desk b = record { book = b; held = replicate most_held 0; len = 0 }
+open_desk b = record { book = b; held = [] }
 
--- the desk after a call is a terminal's, and the buffer starts with what the terminal has said
-pub record Serves (x : Terminal) (out : List ℕ) (r : Reply) (out' : List ℕ) : Type 0 where
-  pub book_is : r.desk.book ≡ x.book
-  pub held_is : take r.desk.len r.desk.held ≡ x.held
-  pub at_is : r.at ≡ length x.said
+-- the desk d' after a call is a terminal's, and the buffer starts with the n bytes that the terminal has said
+pub record Serves (x : Terminal) (out : List ℕ) (n : ℕ) (d' : Desk) (out' : List ℕ) : Type 0 where
+  pub book_is : d'.book ≡ x.book
+  pub held_is : d'.held ≡ x.held
+  pub at_is : n ≡ length x.said
   pub out_is : out' ≡ overwritten out 0 x.said
-  -- so what was said can be lent: `&out[..at]`
-  pub at_in : r.at ≤ length out'
-  pub at_counts : r.at ≡ length (take r.at out')
+  -- so what was said can be lent: `&out[..n]`
+  pub at_in : n ≤ length out'
+  pub at_counts : n ≡ length (take n out')
 
--- the contract of `take_in` and of `last`: with room for the answers, the terminal x, and the desk's len counts what it
--- holds; without, the desk and the buffer as they were
-pub record RepliedBy (room : Bool) (d : Desk) (x : Terminal) (out : List ℕ) (r : Reply) (out' : List ℕ) : Type 0 where
-  pub fits_is : r.fits ≡ room
-  pub serves : Serves (terminal_if room x (at_desk d)) out r out'
-  pub kept : room ≡ false → r.desk ≡ d
-  pub len_is : room ≡ true → r.desk.len ≡ length x.held
+-- the contract of `take_in` and of `last`, d before the call and d' after it: with room for the answers, the terminal x;
+-- without, no count, and the desk and the buffer as they were
+pub record RepliedBy (room : Bool) (d : Desk) (x : Terminal) (out : List ℕ) (r : Option ℕ) (d' : Desk)
+    (out' : List ℕ) : Type 0 where
+  pub fits_is : is_some r ≡ room
+  pub serves : MatchOption r ((d' ≡ d) × (out' ≡ out)) (λ n. Serves x out n d' out')
 
--- ---- desks are compared by what they hold: RepliedBy leaves the bytes of a desk's array past its len free
--- two calls gave the same: whether there was room, what was said, and desks that hold the same
-pub record SameReply (r : Reply) (out₁ : List ℕ) (s : Reply) (out₂ : List ℕ) : Type 0 where
-  pub same_fits : r.fits ≡ s.fits
-  pub same_at : r.at ≡ s.at
+-- the same on a page with the room
+pub record ServedBy (x : Terminal) (d' : Desk) (p p' : Page) : Type 0 where
+  pub book_is : d'.book ≡ x.book
+  pub held_is : d'.held ≡ x.held
+  pub adds : Adds x.said p p'
+
+-- ---- desks are compared by what they hold
+-- two calls gave the same: the count of what was said, if there was room, the buffer, and desks that hold the same
+pub record SameReply (r : Option ℕ) (d₁ : Desk) (out₁ : List ℕ) (s : Option ℕ) (e₁ : Desk) (out₂ : List ℕ) : Type 0 where
+  pub same_at : r ≡ s
   pub same_out : out₁ ≡ out₂
-  pub same_held : at_desk r.desk ≡ at_desk s.desk
-  pub same_len : r.fits ≡ true → r.desk.len ≡ s.desk.len
+  pub same_held : at_desk d₁ ≡ at_desk e₁
 
 -- two desks that hold the same, given the same table, the same chunk and the same buffer, or ended, give the same, and
--- hold the same again: so what lies past len shows nowhere, ever. f is what the call makes of a terminal: `takes_all`, or
--- `ends`
+-- hold the same again. That a contract sees of a desk its book and the bytes that it holds alone, and so nothing of the
+-- room past them, is its model's doing (src/held.rt). f is what the call makes of a terminal: `takes_all`, or `ends`
 abbrev pub ByWhatIsHeld : Type 0
 ByWhatIsHeld =
     (room : Bool) (f : Terminal → Terminal) (d e : Desk) (out : List ℕ)
-    (r : Reply) (out₁ : List ℕ) (s : Reply) (out₂ : List ℕ)
+    (r : Option ℕ) (d₁ : Desk) (out₁ : List ℕ) (s : Option ℕ) (e₁ : Desk) (out₂ : List ℕ)
     → at_desk d ≡ at_desk e
-    → RepliedBy room d (f (at_desk d)) out r out₁
-    → RepliedBy room e (f (at_desk e)) out s out₂
-    → SameReply r out₁ s out₂
+    → RepliedBy room d (f (at_desk d)) out r d₁ out₁
+    → RepliedBy room e (f (at_desk e)) out s e₁ out₂
+    → SameReply r d₁ out₁ s e₁ out₂

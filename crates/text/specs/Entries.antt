@@ -1,10 +1,10 @@
 -- Card 8: a book as its open year and its entries, "`(family maker set number part)` for each filed family, then
 -- `(lot maker set year Mg)`, then `(short maker set year Mg)`, both for Mg above 0. Each group rises by its first three
 -- figures."
-use Rattle.std.specs.Prelude.{ℕ, ◌+◌, ◌*◌, ◌/◌, ◌%◌, Bool, true, false, ◌&&◌, List, [], ◌∷◌, ◌++◌, ltb, get_or, set as store, ℤ, pos}
+use Rattle.std.specs.Prelude.{ℕ, ◌+◌, ◌*◌, ◌/◌, ◌%◌, Bool, true, false, List, [], ◌∷◌, ◌++◌, ltb, get_or, set as store, ℤ, pos}
 use Rattle.figuring.specs.Years.{first_year}
-use Rattle.book.specs.Sizes.{makers, sets, families, years, places, all_parts}
-use Rattle.book.specs.Ledger.{key, cell, place, marked}
+use Rattle.book.specs.Sizes.{sets, families, years, places, all_parts}
+use Rattle.book.specs.Ledger.{key, cell, place, marked, is_family}
 use Rattle.book.specs.Listing.{is_cell_year}
 use Rattle.book.specs.Postings.{empty_in, stored, moved}
 use Rattle.book.specs.declared.ledger.Book.{Book}
@@ -47,11 +47,8 @@ entries b =
 
 -- ---- a book made of entries
 -- "a maker, set, number or year in it .. isn't one of the book's"
-abbrev pub family_in : ℕ → ℕ → ℕ → Bool
-family_in m s n = ltb m makers && (ltb s sets && ltb n families)
-
 unfoldable pub in_book : Entry → Bool
-in_book (Entry.Family m s n part) = family_in m s n
+in_book (Entry.Family m s n part) = is_family m s n
 in_book (Entry.Lot m s y mg) = is_cell_year m s y
 in_book (Entry.Shortage m s y mg) = is_cell_year m s y
 

@@ -1,13 +1,12 @@
 -- A line of each form and an answer of each kind, from document 01's run (credit_book's stored test has the run whole),
 -- a line of each form with figures that differ, and what lies at the edges of a form.
-use Rattle.std.specs.Prelude.{ℕ, true, false, ◌≡◌, List, [], ◌∷◌, ◌++◌, pos, replicate}
+use Rattle.std.specs.Prelude.{ℕ, true, false, ◌≡◌, List, [], ◌∷◌, ◌++◌, pos, replicate, Some, None, Ok, Err}
 use Rattle.figuring.specs.Units.{neg}
 use Rattle.book.specs.declared.kinds.Call.{Call}
 use Rattle.book.specs.declared.answers.Answer.{Answer}
 use Rattle.book.specs.declared.answers.Refusal.{Refusal}
 use Rattle.book.specs.declared.listing.LotEntry.{LotEntry}
 use Rattle.book.specs.declared.listing.ShortageEntry.{ShortageEntry}
-use Rattle.text.specs.declared.lines.Line.{Line}
 use Rattle.text.specs.Ascii.{ascii}
 use Rattle.text.specs.Line.{line_at, line_of}
 use Rattle.text.specs.Answers.{text_of}
@@ -16,10 +15,10 @@ use Rattle.text.specs.Listing.{lot_text, shortage_text}
 
 infix 10 ◌reads◌
 abbrev pub ◌reads◌ : List ℕ → Call → Type 0
-s reads c = line_of s ≡ Line.Form c
+s reads c = line_of s ≡ Some c
 
 abbrev pub NoForm : List ℕ → Type 0
-NoForm s = line_of s ≡ Line.NoForm
+NoForm s = line_of s ≡ None
 
 -- from the paper's input and output
 pub record Run : Type 0 where
@@ -48,13 +47,13 @@ pub record Run : Type 0 where
   pub retire :
       ascii "(retire (maker 1) (set 3) (vintage 2014) (mg 1))"
       reads Call.Retire (record { maker = 1; set = 3; vintage = 2014; mg = 1 })
-  pub filed : text_of (Answer.Filed (record { 0 = pos 1218000000000 }) 1) ≡ ascii "(ok 1218000000000 1)\n"
-  pub filed_minus : text_of (Answer.Filed (record { 0 = neg 26100000000 }) 1) ≡ ascii "(ok -26100000000 1)\n"
-  pub closed : text_of (Answer.Closed 1) ≡ ascii "(ok 1)\n"
-  pub left : text_of (Answer.Left (record { 0 = 11980 })) ≡ ascii "(ok 11980)\n"
-  pub refused : text_of (Answer.Refused Refusal.AboveLot) ≡ ascii "(no 15)\n"
-  pub lot : lot_text 0 3 2014 (LotEntry.Live (record { 0 = 11980 })) ≡ ascii "(lot 0 3 2014 live 11980)\n"
-  pub short : shortage_text 1 3 2014 (ShortageEntry.Open (record { 0 = 61 })) ≡ ascii "(short 1 3 2014 open 61)\n"
+  pub filed : text_of (Ok (Answer.Filed (record { 0 = pos 1218000000000 }) 1)) ≡ ascii "(ok 1218000000000 1)\n"
+  pub filed_minus : text_of (Ok (Answer.Filed (record { 0 = neg 26100000000 }) 1)) ≡ ascii "(ok -26100000000 1)\n"
+  pub closed : text_of (Ok (Answer.Closed 1)) ≡ ascii "(ok 1)\n"
+  pub left : text_of (Ok (Answer.Left (record { 0 = 11980 }))) ≡ ascii "(ok 11980)\n"
+  pub refused : text_of (Err Refusal.AboveLot) ≡ ascii "(no 15)\n"
+  pub lot : lot_text 0 3 2014 (Some (LotEntry.Live (record { 0 = 11980 }))) ≡ ascii "(lot 0 3 2014 live 11980)\n"
+  pub short : shortage_text 1 3 2014 (Some (ShortageEntry.Open (record { 0 = 61 }))) ≡ ascii "(short 1 3 2014 open 61)\n"
 
 -- Each figure goes to the field that stands before it: no two of a line are the same here, as some of the run's are.
 pub record Fields : Type 0 where
@@ -114,8 +113,8 @@ pub record Edges : Type 0 where
       NoForm (ascii "(file (maker 0) (set 3) (year 2014) (use 1) (family 0) (fcl 465) (cf 280000) (volume 1000) (life 435))")
   pub other_order : NoForm (ascii "(apply (maker 1) (set 3) (year 2014) (vintage 2014) (mg 261))")
   -- a form at a place of a line of 160 bytes, and of a line of 161
-  pub rest_of_160 : line_at (replicate 141 32 ++ ascii "(close (year 2014))") 141 ≡ Line.Form (Call.Close 2014)
-  pub rest_of_161 : line_at (replicate 142 32 ++ ascii "(close (year 2014))") 142 ≡ Line.NoForm
+  pub rest_of_160 : line_at (replicate 141 32 ++ ascii "(close (year 2014))") 141 ≡ Some (Call.Close 2014)
+  pub rest_of_161 : line_at (replicate 142 32 ++ ascii "(close (year 2014))") 142 ≡ None
   pub empty_line : lines_of (ascii "a\n\nb") ≡ ascii "a" ∷ [] ∷ ascii "b" ∷ []
   pub empty_end : lines_of (ascii "a\n") ≡ ascii "a" ∷ []
   pub no_input : lines_of [] ≡ []

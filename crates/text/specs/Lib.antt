@@ -11,7 +11,6 @@ pub mod Lines
 pub mod FirstLine
 pub mod Loads
 pub mod TableText
-pub mod TableReading
 pub mod Gather
 pub mod Listing
 pub mod Entries

@@ -1,9 +1,9 @@
 -- Document 01, "Terminal text": which line is which call.
-use Rattle.std.specs.Prelude.{ℕ, Bool, true, false, List, [], ◌∷◌, ◌++◌, ltb, length, get_or, drop}
+use Rattle.std.specs.Prelude.{ℕ, Bool, true, false, cond, List, [], ◌∷◌, ◌++◌, ltb, length, get_or, drop, Option, None, option_map}
+use Rattle.std.specs.Option.{option_or}
 use Rattle.book.specs.declared.kinds.Call.{Call}
-use Rattle.text.specs.declared.lines.Line.{Line}
 use Rattle.text.specs.Ascii.{ascii}
-use Rattle.text.specs.Pattern.{figures}
+use Rattle.text.specs.Pattern.{fit}
 
 -- "at most 160 bytes before its line feed"
 abbrev pub longest_line : ℕ
@@ -88,41 +88,24 @@ retire =
           λ n. Call.Retire (record { maker = figure n 0; set = figure n 1; vintage = figure n 2; mg = figure n 3 });
     }
 
--- the forms from one on, in the order in which they are tried
-abbrev pub from_retire : List Form
-from_retire = retire ∷ []
-
-abbrev pub from_apply : List Form
-from_apply = apply ∷ from_retire
-
-abbrev pub from_trade : List Form
-from_trade = trade ∷ from_apply
-
-abbrev pub from_close : List Form
-from_close = close ∷ from_trade
-
-abbrev pub from_amend : List Form
-from_amend = amend ∷ from_close
-
+-- the forms, in the order in which they are tried
 abbrev pub forms : List Form
-forms = file ∷ from_amend
+forms = file ∷ amend ∷ close ∷ trade ∷ apply ∷ retire ∷ []
 
-abbrev pub line_if : Bool → Line → Line → Line
-line_if true a b = a
-line_if false a b = b
+-- the call that a text is by a form, if it fits it
+abbrev pub call_in : Form → List ℕ → Option Call
+call_in f s = option_map f.call (fit most_digits f.pattern s)
 
--- the first of some forms that a text fits
-abbrev pub first_form : List Form → List ℕ → Line
-first_form [] s = Line.NoForm
-first_form (f ∷ fs) s =
-    let r = figures most_digits f.pattern s in
-    line_if r.fits (Line.Form (f.call r.n)) (first_form fs s)
+-- by the first of some forms that it fits
+abbrev pub first_form : List Form → List ℕ → Option Call
+first_form [] s = None
+first_form (f ∷ fs) s = option_or (call_in f s) (first_form fs s)
 
 -- what stands from a place of a line on, to the line's end. The limit is the line's: a longer one is no form
 -- "as a whole", wherever it is read from
-unfoldable pub line_at : List ℕ → ℕ → Line
-line_at s place = line_if (ltb longest_line (length s)) Line.NoForm (first_form forms (drop place s))
+unfoldable pub line_at : List ℕ → ℕ → Option Call
+line_at s place = cond (ltb longest_line (length s)) None (first_form forms (drop place s))
 
--- what a line is read as, for any bytes
-unfoldable pub line_of : List ℕ → Line
+-- what a line is read as, for any bytes: the call, or none where it is no form
+unfoldable pub line_of : List ℕ → Option Call
 line_of s = line_at s 0

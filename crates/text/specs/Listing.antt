@@ -1,7 +1,7 @@
 -- Document 01: "then lists the cells, maker before set, in rising order: for each cell the lots above 0, then its
 -- shortages above 0, by year, as maker, set, year, state (live or expired; open or overdue), Mg". What there is to show
 -- of a cell and a year is the book layer's to say.
-use Rattle.std.specs.Prelude.{ℕ, ◌+◌, ◌*◌, List, [], ◌∷◌, ◌++◌}
+use Rattle.std.specs.Prelude.{ℕ, ◌+◌, ◌*◌, List, [], ◌∷◌, ◌++◌, Option, Some, None}
 use Rattle.figuring.specs.Years.{first_year}
 use Rattle.book.specs.Sizes.{makers, sets, years}
 use Rattle.book.specs.Listing.{lot_entry, shortage_entry}
@@ -20,15 +20,15 @@ entry_room = 64
 abbrev pub listing_room : ℕ
 listing_room = makers * (sets * (years * entry_room + years * entry_room))
 
-abbrev pub lot_text : ℕ → ℕ → ℕ → LotEntry → List ℕ
-lot_text m s y (LotEntry.Live mg) = filled (ascii "(lot # # # live #)\n") (m ∷ s ∷ y ∷ mg.0 ∷ [])
-lot_text m s y (LotEntry.Expired mg) = filled (ascii "(lot # # # expired #)\n") (m ∷ s ∷ y ∷ mg.0 ∷ [])
-lot_text m s y LotEntry.NoLot = []
+abbrev pub lot_text : ℕ → ℕ → ℕ → Option LotEntry → List ℕ
+lot_text m s y (Some (LotEntry.Live mg)) = filled (ascii "(lot # # # live #)\n") (m ∷ s ∷ y ∷ mg.0 ∷ [])
+lot_text m s y (Some (LotEntry.Expired mg)) = filled (ascii "(lot # # # expired #)\n") (m ∷ s ∷ y ∷ mg.0 ∷ [])
+lot_text m s y None = []
 
-abbrev pub shortage_text : ℕ → ℕ → ℕ → ShortageEntry → List ℕ
-shortage_text m s y (ShortageEntry.Open mg) = filled (ascii "(short # # # open #)\n") (m ∷ s ∷ y ∷ mg.0 ∷ [])
-shortage_text m s y (ShortageEntry.Overdue mg) = filled (ascii "(short # # # overdue #)\n") (m ∷ s ∷ y ∷ mg.0 ∷ [])
-shortage_text m s y ShortageEntry.NoShortage = []
+abbrev pub shortage_text : ℕ → ℕ → ℕ → Option ShortageEntry → List ℕ
+shortage_text m s y (Some (ShortageEntry.Open mg)) = filled (ascii "(short # # # open #)\n") (m ∷ s ∷ y ∷ mg.0 ∷ [])
+shortage_text m s y (Some (ShortageEntry.Overdue mg)) = filled (ascii "(short # # # overdue #)\n") (m ∷ s ∷ y ∷ mg.0 ∷ [])
+shortage_text m s y None = []
 
 -- o is the open year, l the book's lots; i counts the years from the first
 unfoldable pub lot_line : ℕ → List ℕ → ℕ → ℕ → ℕ → List ℕ

@@ -1,6 +1,5 @@
 -- Document 01: "decimal numbers of 1 to 12 digits, no leading zero except 0 itself", read and written.
-use Rattle.std.specs.Prelude.{ℕ, zero, suc, ◌+◌, ◌-◌, ◌*◌, ◌/◌, ◌%◌, Bool, true, false, not, cond, ◌&&◌, ◌||◌, List, [], ◌∷◌, ◌++◌, leb, ltb, eqb, length, get_or}
-use Rattle.text.specs.declared.numbers.Number.{Number}
+use Rattle.std.specs.Prelude.{ℕ, zero, suc, ◌+◌, ◌-◌, ◌*◌, ◌/◌, ◌%◌, Bool, not, cond, ◌&&◌, ◌||◌, List, [], ◌∷◌, ◌++◌, leb, ltb, eqb, length, get_or, fold, Option, Some, None}
 
 -- the ASCII code of 0 to 9
 abbrev pub digit : ℕ → Bool
@@ -13,8 +12,7 @@ leading (c ∷ s) = cond (digit c) (c ∷ leading s) []
 
 -- what digits are worth after digits that are worth v
 unfoldable pub worth : ℕ → List ℕ → ℕ
-worth v [] = v
-worth v (c ∷ s) = worth (v * 10 + (c - 48)) s
+worth v s = fold (λ v c. v * 10 + (c - 48)) v s
 
 unfoldable pub value : List ℕ → ℕ
 value s = worth 0 s
@@ -23,13 +21,9 @@ value s = worth 0 s
 abbrev pub proper : ℕ → List ℕ → Bool
 proper most ds = ltb 0 (length ds) && (leb (length ds) most && (leb (length ds) 1 || not (eqb (get_or ds 0 0) 48)))
 
-abbrev pub number_if : Bool → ℕ → ℕ → Number
-number_if true v k = Number.Read v k
-number_if false v k = Number.Nothing
-
 -- the number of at most `most` digits that a text starts with, and how many digits it has
-unfoldable pub number : ℕ → List ℕ → Number
-number most s = number_if (proper most (leading s)) (value (leading s)) (length (leading s))
+unfoldable pub number : ℕ → List ℕ → Option (ℕ × ℕ)
+number most s = cond (proper most (leading s)) (Some (value (leading s), length (leading s))) None
 
 -- the digits of n, which has at most k of them
 unfoldable pub numeral_of : ℕ → ℕ → List ℕ

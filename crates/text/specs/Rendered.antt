@@ -1,12 +1,11 @@
 -- The line that a call is written as, and what reading has to do with it.
-use Rattle.std.specs.Prelude.{ℕ, ◌^◌, ◌<◌, ◌≤◌, Bool, true, false, ◌≡◌, List, [], ◌∷◌, length}
+use Rattle.std.specs.Prelude.{ℕ, ◌^◌, ◌<◌, ◌≤◌, Bool, true, false, ◌≡◌, List, [], ◌∷◌, length, Some, None}
 use Rattle.figuring.specs.Tables.{Table}
 use Rattle.book.specs.Rules.{posted}
 use Rattle.book.specs.Demand3.{is_accepted}
 use Rattle.book.specs.declared.ledger.Book.{Book}
 use Rattle.book.specs.declared.kinds.Call.{Call}
 use Rattle.book.specs.declared.kinds.Filing.{Filing}
-use Rattle.text.specs.declared.lines.Line.{Line}
 use Rattle.text.specs.Pattern.{filled}
 use Rattle.text.specs.Line.{Form, file, amend, close, trade, apply, retire, line_of, longest_line, most_digits}
 
@@ -66,6 +65,6 @@ NoText s = (c : Call) → IsText s c → ⊥
 
 -- A line is read as a call exactly when it is that call's text in this sense, and as no form when it is no call's text.
 pub record Reads : Type 0 where
-  pub only : (s : List ℕ) (c : Call) → line_of s ≡ Line.Form c → IsText s c
-  pub each : (s : List ℕ) (c : Call) → IsText s c → line_of s ≡ Line.Form c
-  pub else_none : (s : List ℕ) → NoText s → line_of s ≡ Line.NoForm
+  pub only : (s : List ℕ) (c : Call) → line_of s ≡ Some c → IsText s c
+  pub each : (s : List ℕ) (c : Call) → IsText s c → line_of s ≡ Some c
+  pub else_none : (s : List ℕ) → NoText s → line_of s ≡ None

@@ -1,7 +1,6 @@
 -- Card 7: the customer's own table of standards as "a text of its own, the file `std.txt`": how it is read, and how it is
 -- written.
-use Rattle.std.specs.Prelude.{ℕ, zero, suc, ◌+◌, ◌<◌, Bool, true, false, cond, ◌⊎◌, ◌≡◌, List, [], ◌∷◌, ◌++◌, ltb, eqb, length, take}
-use Rattle.std.proofs.Math.Option.{Option, none, some}
+use Rattle.std.specs.Prelude.{ℕ, zero, suc, ◌+◌, ◌<◌, Bool, true, false, cond, ◌⊎◌, ◌≡◌, List, [], ◌∷◌, ◌++◌, ltb, eqb, length, take, Option, None, Some}
 use Rattle.figuring.specs.Years.{first_year}
 use Rattle.figuring.specs.Grid.{grid_years, grid_columns}
 use Rattle.figuring.specs.Tables.{Table, no_row, row_fits, accepted_table}
@@ -22,14 +21,14 @@ std_form = ascii "(std # # # # # # #)"
 
 -- the row of a line's figures, if their first is the year y
 abbrev pub of_year : ℕ → Option (List ℕ) → Option (List ℕ)
-of_year y none = none
-of_year y (some []) = none
-of_year y (some (n ∷ row)) = cond (eqb n y) (some row) none
+of_year y None = None
+of_year y (Some []) = None
+of_year y (Some (n ∷ row)) = cond (eqb n y) (Some row) None
 
 -- the row that a line is for the year y, "by the terminal text's line and number rules"; none where 19 refuses it: it
 -- "isn't of that form", or "its year is wrong"
 unfoldable pub row_in : ℕ → List ℕ → Option (List ℕ)
-row_in y s = cond (ltb longest_line (length s)) none (of_year y (fit most_digits std_form s))
+row_in y s = cond (ltb longest_line (length s)) None (of_year y (fit most_digits std_form s))
 
 -- a row before the others
 abbrev pub with_row : List ℕ → Read Table → Read Table
@@ -43,8 +42,8 @@ on_fit false row rest = refused UnfitTable
 
 -- in one line "19 before 20"
 abbrev pub on_row : List ℕ → Option (List ℕ) → (List ℕ → Read Table) → Read Table
-on_row before none rest = refused NotATable
-on_row before (some row) rest = on_fit (row_fits before row) row (rest row)
+on_row before None rest = refused NotATable
+on_row before (Some row) rest = on_fit (row_fits before row) row (rest row)
 
 -- the lines of n years, "rising by one" from y on, after the row of the year before: "The first line at fault decides"
 unfoldable pub rows_from : ℕ → ℕ → List ℕ → List (List ℕ) → Read Table
@@ -92,7 +91,7 @@ Right y before [] [] = Unit {0}
 Right y before [] (row ∷ rows) = ⊥
 Right y before (l ∷ ls) [] = ⊥
 Right y before (l ∷ ls) (row ∷ rows) =
-    (row_in y l ≡ some row) × ((row_fits before row ≡ true) × Right (suc y) row ls rows)
+    (row_in y l ≡ Some row) × ((row_fits before row ≡ true) × Right (suc y) row ls rows)
 
 abbrev pub last_row : List ℕ → Table → List ℕ
 last_row before [] = before
@@ -102,7 +101,7 @@ last_row before (row ∷ rows) = last_row row rows
 pub record Faults (s : List ℕ) (ls : List (List ℕ)) (rows : Table) : Type 0 where
   -- "19, a line isn't of that form, is missing or too many, or its year is wrong"
   pub malformed :
-      (l : List ℕ) (after : List (List ℕ)) → lines_of s ≡ ls ++ l ∷ after → length ls < 24 → row_in (2014 + length ls) l ≡ none
+      (l : List ℕ) (after : List (List ℕ)) → lines_of s ≡ ls ++ l ∷ after → length ls < 24 → row_in (2014 + length ls) l ≡ None
       → table_of s ≡ refused NotATable
   pub missing : lines_of s ≡ ls → length ls < 24 → table_of s ≡ refused NotATable
   pub too_many :
@@ -110,7 +109,7 @@ pub record Faults (s : List ℕ) (ls : List (List ℕ)) (rows : Table) : Type 0 
   -- "20, an entry breaks the limits or rises"; "19 before 20", so of a line that is a row of its year
   pub unfit :
       (l : List ℕ) (after : List (List ℕ)) (row : List ℕ) → lines_of s ≡ ls ++ l ∷ after → length ls < 24
-      → row_in (2014 + length ls) l ≡ some row → row_fits (last_row no_row rows) row ≡ false → table_of s ≡ refused UnfitTable
+      → row_in (2014 + length ls) l ≡ Some row → row_fits (last_row no_row rows) row ≡ false → table_of s ≡ refused UnfitTable
 
 -- so many bytes of a text decide: 24 lines of at most 160 bytes, each with its line feed, and one byte more
 abbrev pub table_room : ℕ

@@ -1,16 +1,14 @@
 -- Card 8: "Writing returns the length and leaves the bytes after it", for any book and any buffer.
-use Rattle.std.specs.Prelude.{ℕ, ◌+◌, ◌/◌, ◌%◌, Bool, cond, List, [], ◌∷◌, ◌++◌, ltb, ℤ, length, get_or}
+use Rattle.std.specs.Prelude.{ℕ, ◌+◌, ◌/◌, ◌%◌, Bool, cond, List, [], ◌∷◌, ◌++◌, ltb, ℤ, length, get_or, Result, Ok, Err}
 use Rattle.std.proofs.lemmas.List.Edits.{sets as overwritten}
 use Rattle.figuring.specs.Years.{first_year}
 use Rattle.book.specs.Sizes.{sets, years}
 use Rattle.book.specs.Soundness.{sound}
-use Rattle.book.specs.Refusals.{Row, ◌⇒◌, first_refusal}
+use Rattle.book.specs.Refusals.{Verdict, Row, ◌⇒◌, first_refusal}
 use Rattle.book.specs.Rules.{head_rows}
 use Rattle.book.specs.declared.ledger.Book.{Book}
+use Rattle.book.specs.declared.answers.Refusal.{Refusal}
 use Rattle.book.specs.declared.answers.Refusal.TheVariants.{ShortBuffer}
-use Rattle.book.specs.declared.answers.Verdict.{Verdict}
-use Rattle.book.specs.declared.answers.Verdict.TheVariants.{Accepted, Refuse}
-use Rattle.text.specs.declared.writing.Wrote.{Wrote}
 use Rattle.text.specs.Pattern.{filled}
 use Rattle.text.specs.Entries.{family_at}
 use Rattle.text.specs.BookText.{entry_lines, book_text}
@@ -25,17 +23,17 @@ unfoldable pub writing : Book → List ℕ → Verdict
 writing b out = first_refusal (writing_rows (sound b) (length (book_text b)) (length out))
 
 -- "Writing returns the length"
-abbrev pub wrote_by : Verdict → List ℕ → Wrote
-wrote_by Accepted text = Wrote.Length (length text)
-wrote_by (Refuse r) text = Wrote.Refused r
+abbrev pub wrote_by : Verdict → List ℕ → Result ℕ Refusal
+wrote_by (Ok u) text = Ok (length text)
+wrote_by (Err r) text = Err r
 
 -- the buffer then: the text at its start, and "the bytes after it" as they were; "Every refusal leaves the lent buffer as
 -- it was"
 abbrev pub buffer_by : Verdict → List ℕ → List ℕ → List ℕ
-buffer_by Accepted text out = overwritten out 0 text
-buffer_by (Refuse r) text out = out
+buffer_by (Ok u) text out = overwritten out 0 text
+buffer_by (Err r) text out = out
 
-abbrev pub wrote_of : Book → List ℕ → Wrote
+abbrev pub wrote_of : Book → List ℕ → Result ℕ Refusal
 wrote_of b out = wrote_by (writing b out) (book_text b)
 
 abbrev pub buffer_after : Book → List ℕ → List ℕ

@@ -1,109 +1,78 @@
 // A line answered with a book and a table of standards, and an answer as text.
-ghost use Rattle.std.specs.Prelude.{◌≡◌, ◌+◌, ◌≤◌, length};
+ghost use Rattle.std.specs.Prelude.{◌≡◌, length};
 ghost use Rattle.book.specs.declared.answers.Answer.{Answer};
-ghost use Rattle.text.specs.Answers.{Answered, answer_room, answer_to, posted_line, text_of};
-ghost use Rattle.text.specs.Placing.{Puts, Stands, room_for};
+ghost use Rattle.text.specs.Answers.{answer_room, answer_to, posted_line, text_of};
+ghost use Rattle.text.specs.Placing.{Adds, HasRoom, Puts, room_for};
 
-use crate::lines::Line;
-use crate::patterns::fill;
-use crate::placing::{Placed, put_bytes};
+use crate::page::Page;
+use crate::placing::put_bytes;
 use crate::reader::read_line;
-use book::answers::{Answer, Posted, Refusal, refusal_number};
+use book::answers::{Answer, Posted, Refusal};
 use book::in_place::post_in;
+use book::kinds::Call;
 use book::ledger::Book;
-use book::posting::post;
-use figuring::netting::size_of;
 use figuring::tables::Table;
 
 // No answer's line is longer.
 pub const ANSWER_ROOM: usize = 64;
 
 // The answer to a line, for any bytes (without the line feed) and any table, and the book after it.
+#[tactic(auto, unfolding(crate::specs::Answers::answer_to))]
 pub fn answer_line(book: Book, table: Table, line: &[u8]) -> Posted
     ensures { result ≡ answer_to table book line.now }
 {
-    match read_line(line) {
-        Line::NoForm => Posted {
-            answer: Answer::Refused(Refusal::NotAForm),
-            book,
-        },
-        Line::Form(call) => post(book, table, call),
-    }
+    let mut own = book;
+    let answer = line_in(&mut own, table, read_line(line));
+    Posted { answer, book: own }
 }
 
 // A line that has been read, answered in place. A line that is no form leaves the book untouched.
-pub fn line_in(book: &mut Book, table: Table, line: Line) -> Answer
+pub fn line_in(book: &mut Book, table: Table, line: Option<Call>) -> Result<Answer, Refusal>
     ensures { (result ≡ (posted_line table book.old line).answer)
         × (book.new ≡ (posted_line table book.old line).book) }
 {
     match line {
-        Line::NoForm => Answer::Refused(Refusal::NotAForm),
-        Line::Form(call) => post_in(book, table, call),
+        Some(call) => post_in(book, table, call),
+        None => Err(Refusal::NotAForm),
     }
 }
 
 // Puts the answer to a filing: its part, a negative one with its minus, and its count.
-fn put_filed(out: &mut [u8], at: usize, part: i64, k: u64) -> usize
-    requires { at + answer_room ≤ length out.old }
-    ensures { Stands (text_of (Answer.Filed (record { 0 = part }) k)) at
-        out.old result out.new }
+#[tactic(auto, using(crate::proofs::FillLaws::filled_length), unfolding(crate::specs::Pattern::hashes))]
+fn put_filed(page: &mut Page, part: i64, k: u64)
+    requires { HasRoom answer_room page.old }
+    ensures { Adds (text_of (Ok (Answer.Filed (record { 0 = part }) k))) page.old page.new }
 {
-    let m = size_of(part);
+    let mg = part.unsigned_abs();
     if part < 0 {
-        fill(
-            out,
-            at,
-            b"(ok -# #)\n",
-            [m, k, 0, 0, 0, 0, 0, 0, 0, 0, 0, 0],
-        )
+        page.fill(b"(ok -# #)\n", &[mg, k]);
     } else {
-        fill(out, at, b"(ok # #)\n", [m, k, 0, 0, 0, 0, 0, 0, 0, 0, 0, 0])
+        page.fill(b"(ok # #)\n", &[mg, k]);
     }
 }
 
-// Puts an answer's line where there is room, and answers the place after it.
-pub(crate) fn write_answer(out: &mut [u8], at: usize, answer: Answer) -> usize
-    requires { at + answer_room ≤ length out.old }
-    ensures { Stands (text_of answer) at out.old result out.new }
+// Puts an answer's line on a page with the room.
+#[tactic(auto, using(crate::proofs::AnswerLaws::texts), unfolding(crate::specs::Pattern::hashes))]
+pub(crate) fn write_answer(page: &mut Page, answer: Result<Answer, Refusal>)
+    requires { HasRoom answer_room page.old }
+    ensures { Adds (text_of answer) page.old page.new }
 {
     match answer {
-        Answer::Refused(r) => fill(
-            out,
-            at,
-            b"(no #)\n",
-            [refusal_number(r), 0, 0, 0, 0, 0, 0, 0, 0, 0, 0, 0],
-        ),
-        Answer::Filed(p, k) => put_filed(out, at, p.0, k),
-        Answer::Closed(k) => fill(out, at, b"(ok #)\n", [k, 0, 0, 0, 0, 0, 0, 0, 0, 0, 0, 0]),
-        Answer::Left(m) => fill(out, at, b"(ok #)\n", [m.0, 0, 0, 0, 0, 0, 0, 0, 0, 0, 0, 0]),
+        Err(why) => page.fill(b"(no #)\n", &[u64::from(why)]),
+        Ok(Answer::Filed(part, k)) => put_filed(page, part.0, k),
+        Ok(Answer::Closed(k)) => page.fill(b"(ok #)\n", &[k]),
+        Ok(Answer::Left(mg)) => page.fill(b"(ok #)\n", &[mg.0]),
     }
 }
 
-// Puts an answer's line into any buffer from any place on. Where it does not fit, out is as it was.
-pub fn put_answer(out: &mut [u8], at: usize, answer: Answer) -> Placed
+// Puts an answer's line into any buffer from any place on, and gives the place after it. Where it does not fit there is
+// none, and out is as it was.
+pub fn put_answer(out: &mut [u8], at: usize, answer: Result<Answer, Refusal>) -> Option<usize>
     ensures { Puts (room_for (length (text_of answer)) at out.old) (text_of answer) at
         out.old result out.new }
 {
     let mut text = [0u8; ANSWER_ROOM];
-    let n = write_answer(&mut text, 0, answer);
-    put_bytes(out, at, &text[..n])
-}
-
-// The book after a line, and the place after its answer's text.
-#[derive(Clone, Copy)]
-pub struct Step {
-    pub book: Book,
-    pub at: usize,
-}
-
-// Answers a line, and puts the answer's text where there is room.
-pub(crate) fn answer_into(book: Book, table: Table, line: &[u8], out: &mut [u8], at: usize) -> Step
-    requires { at + answer_room ≤ length out.old }
-    ensures { Answered table book line.now out.old at result out.new }
-{
-    let p = answer_line(book, table, line);
-    let a = p.answer;
-    let b = p.book;
-    let e = write_answer(out, at, a);
-    Step { book: b, at: e }
+    let mut page = Page::new(&mut text);
+    write_answer(&mut page, answer);
+    put_bytes(out, at, page.written())
 }

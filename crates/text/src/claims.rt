@@ -61,7 +61,7 @@ pub fn any_chunks() -> bool
     true
 }
 
-// Two desks that hold the same give the same, whatever lies past len.
+// Two desks that hold the same give the same; what else they have in memory, no contract sees.
 pub fn desks_by_what_they_hold() -> bool
     ensures { (result ≡ true) × ByWhatIsHeld }
 {

@@ -1,107 +1,84 @@
 // A line of a book's text to its entry.
-ghost use Rattle.std.specs.Prelude.{◌≡◌, ◌^◌, ◌<◌};
-ghost use Rattle.text.specs.Line.{figure};
+#![tactic(auto, unfolding(crate::specs::Pattern::hashes))]
+
+ghost use Rattle.std.specs.Prelude.{◌≡◌};
 ghost use Rattle.text.specs.BookText.{family, family_below, lot, short};
-ghost use Rattle.text.specs.BookReading.{book_digits, entry_by, entry_of};
-ghost use Rattle.text.specs.EntryReading.{line_entry, next_entry};
+ghost use Rattle.text.specs.BookReading.{entry_in, entry_of};
+ghost use Rattle.text.specs.EntryReading.{next_entry};
 
 use crate::entries::Entry;
 use crate::first_line::line_end;
-use crate::patterns::{MOST_FIGURES, fitted};
+use crate::patterns::fitted;
 
 // "Numbers are as before but of up to 18 digits".
 pub(crate) const BOOK_DIGITS: usize = 18;
 
-// What a line is.
-#[derive(Clone, Copy)]
-enum LineEntry {
-    One(Entry),
-    NoEntry,
-}
-
-// The entry of a line of a text, and where the next line begins.
-#[derive(Clone, Copy)]
-pub enum NextEntry {
-    At(Entry, usize),
-    Nothing,
-}
-
-// The entry of the line that begins at a place, for any bytes and any place; none of a line that lacks its line feed.
-pub(crate) fn entry_at(text: &[u8], at: usize) -> NextEntry
+// The entry of the line that begins at a place, and where the next line begins, for any bytes and any place; none of a
+// line that lacks its line feed.
+#[tactic(auto, using(crate::proofs::ReadingLaws::reads_entry))]
+pub(crate) fn entry_at(text: &[u8], at: usize) -> Option<(Entry, usize)>
     ensures { result ≡ next_entry text.now at }
 {
     if text.len() < at {
-        return NextEntry::Nothing;
+        return None;
     }
     let end = line_end(text, at);
     if end == text.len() {
-        return NextEntry::Nothing;
+        return None;
     }
-    match entry_of(&text[at..end]) {
-        LineEntry::NoEntry => NextEntry::Nothing,
-        LineEntry::One(e) => NextEntry::At(e, end + 1),
-    }
+    let entry = entry_of(&text[at..end])?;
+    Some((entry, end + 1))
 }
 
 // The entry of a line, by the first form that it fits.
-fn entry_of(line: &[u8]) -> LineEntry
-    ensures { result ≡ line_entry (entry_of line.now) }
+#[tactic(auto, unfolding(crate::specs::BookReading::entry_of))]
+fn entry_of(line: &[u8]) -> Option<Entry>
+    ensures { result ≡ entry_of line.now }
 {
-    let family = fitted(b"(family # # # #)", line, BOOK_DIGITS);
-    if family.fits {
-        let n = family.n;
-        return family_of(n);
-    }
-    let below = fitted(b"(family # # # -#)", line, BOOK_DIGITS);
-    if below.fits {
-        let n = below.n;
-        return family_below_of(n);
-    }
-    let lot = fitted(b"(lot # # # #)", line, BOOK_DIGITS);
-    if lot.fits {
-        let n = lot.n;
-        return lot_of(n);
-    }
-    let short = fitted(b"(short # # # #)", line, BOOK_DIGITS);
-    if short.fits {
-        let n = short.n;
-        return shortage_of(n);
-    }
-    LineEntry::NoEntry
+    family(line)
+        .or_else(|| family_below(line))
+        .or_else(|| lot(line))
+        .or_else(|| short(line))
 }
 
-fn family_of(n: [u64; MOST_FIGURES]) -> LineEntry
-    requires { figure n 3 < 10 ^ book_digits }
-    ensures { result ≡ line_entry (entry_by family n) }
+#[tactic(auto, unfolding(crate::specs::Pattern::hashes), using(crate::proofs::ReadingLaws::reads_family))]
+fn family(line: &[u8]) -> Option<Entry>
+    ensures { result ≡ entry_in family line.now }
 {
-    LineEntry::One(Entry::Family(n[0], n[1], n[2], n[3] as i64))
+    let [maker, set, number, part] = fitted::<4>(b"(family # # # #)", line, BOOK_DIGITS)?;
+    Some(Entry::Family(maker, set, number, part as i64))
 }
 
 // A part below 0: -0 is none.
-fn family_below_of(n: [u64; MOST_FIGURES]) -> LineEntry
-    requires { figure n 3 < 10 ^ book_digits }
-    ensures { result ≡ line_entry (entry_by family_below n) }
+#[tactic(auto, unfolding(crate::specs::Pattern::hashes), using(crate::proofs::ReadingLaws::reads_family))]
+fn family_below(line: &[u8]) -> Option<Entry>
+    ensures { result ≡ entry_in family_below line.now }
 {
-    if n[3] == 0 {
-        return LineEntry::NoEntry;
+    let [maker, set, number, size] = fitted::<4>(b"(family # # # -#)", line, BOOK_DIGITS)?;
+    if size == 0 {
+        return None;
     }
-    LineEntry::One(Entry::Family(n[0], n[1], n[2], 0 - n[3] as i64))
+    Some(Entry::Family(maker, set, number, -(size as i64)))
 }
 
-fn lot_of(n: [u64; MOST_FIGURES]) -> LineEntry
-    ensures { result ≡ line_entry (entry_by lot n) }
+// A lot and a shortage stay two functions: they differ in the pattern and in the variant that they make, so that one for
+// both would be handed both.
+fn lot(line: &[u8]) -> Option<Entry>
+    ensures { result ≡ entry_in lot line.now }
 {
-    if n[3] == 0 {
-        return LineEntry::NoEntry;
+    let [maker, set, year, mg] = fitted::<4>(b"(lot # # # #)", line, BOOK_DIGITS)?;
+    if mg == 0 {
+        return None;
     }
-    LineEntry::One(Entry::Lot(n[0], n[1], n[2], n[3]))
+    Some(Entry::Lot(maker, set, year, mg))
 }
 
-fn shortage_of(n: [u64; MOST_FIGURES]) -> LineEntry
-    ensures { result ≡ line_entry (entry_by short n) }
+fn short(line: &[u8]) -> Option<Entry>
+    ensures { result ≡ entry_in short line.now }
 {
-    if n[3] == 0 {
-        return LineEntry::NoEntry;
+    let [maker, set, year, mg] = fitted::<4>(b"(short # # # #)", line, BOOK_DIGITS)?;
+    if mg == 0 {
+        return None;
     }
-    LineEntry::One(Entry::Shortage(n[0], n[1], n[2], n[3]))
+    Some(Entry::Shortage(maker, set, year, mg))
 }

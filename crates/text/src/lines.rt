@@ -1,9 +1,11 @@
 // The forms of document 01, and card 6's: a line to a call.
-ghost use Rattle.std.specs.Prelude.{◌≡◌};
-ghost use Rattle.text.specs.Line.{apply, close, filing_call, retire, trade};
-ghost use Rattle.text.specs.Line.{forms, from_amend, from_close, from_trade, from_apply, from_retire, first_form, line_at};
+#![tactic(auto, unfolding(crate::specs::Pattern::hashes))]
 
-use crate::patterns::{MOST_FIGURES, fitted};
+ghost use Rattle.std.specs.Prelude.{◌≡◌, option_map};
+ghost use Rattle.text.specs.Pattern.{fit, hashes};
+ghost use Rattle.text.specs.Line.{file, amend, close, trade, apply, retire, forms, filing_call, most_digits, call_in, first_form, line_at};
+
+use crate::patterns::fitted;
 use book::kinds::{Application, Call, Filing, Retirement, Trade};
 
 // The most bytes of a line before its line feed, and the most digits of a number in it.
@@ -11,170 +13,133 @@ pub const LONGEST_LINE: usize = 160;
 
 pub const MOST_DIGITS: usize = 12;
 
-// What a line is read as.
-#[derive(Clone, Copy)]
-pub enum Line {
-    Form(Call),
-    NoForm,
-}
-
 // What stands from a place of a line on, for any bytes (without the line feed) and any place. The limit is the line's:
 // a longer one is no form, wherever it is read from.
-pub fn form_at(line: &[u8], at: usize) -> Line
+pub fn form_at(line: &[u8], at: usize) -> Option<Call>
     ensures { result ≡ line_at line.now at }
 {
     if LONGEST_LINE < line.len() {
-        return Line::NoForm;
+        return None;
     }
-    if line.len() < at {
-        return Line::NoForm;
-    }
-    form_of(&line[at..])
+    first_form(line.get(at..)?)
 }
 
-// The first of the forms that a text fits, however long it is. A function for each form tries its own, and hands what
-// does not fit to the next one's.
-fn form_of(line: &[u8]) -> Line
+// The first of the forms that a text fits, however long it is.
+fn first_form(line: &[u8]) -> Option<Call>
     ensures { result ≡ first_form forms line.now }
 {
-    let read = fitted(
+    file(line)
+        .or_else(|| amend(line))
+        .or_else(|| close(line))
+        .or_else(|| trade(line))
+        .or_else(|| apply(line))
+        .or_else(|| retire(line))
+}
+
+fn file(line: &[u8]) -> Option<Call>
+    ensures { result ≡ call_in file line.now }
+{
+    filing(
+        false,
         b"(file (maker #) (set #) (year #) (use #) (edition #) (family #) (fcl #) (cf #) (volume #) (life #))",
         line,
-        MOST_DIGITS,
-    );
-    if read.fits {
-        let n = read.n;
-        return Line::Form(filing_of(false, n));
-    }
-    from_amend(line)
+    )
 }
 
-fn from_amend(line: &[u8]) -> Line
-    ensures { result ≡ first_form from_amend line.now }
+fn amend(line: &[u8]) -> Option<Call>
+    ensures { result ≡ call_in amend line.now }
 {
-    let read = fitted(
+    filing(
+        true,
         b"(amend (maker #) (set #) (year #) (use #) (edition #) (family #) (fcl #) (cf #) (volume #) (life #))",
         line,
-        MOST_DIGITS,
-    );
-    if read.fits {
-        let n = read.n;
-        return Line::Form(filing_of(true, n));
-    }
-    from_close(line)
+    )
 }
 
-fn filing_of(amends: bool, n: [u64; MOST_FIGURES]) -> Call
-    ensures { result ≡ filing_call amends n }
+fn filing(amends: bool, pattern: &[u8], line: &[u8]) -> Option<Call>
+    requires { hashes pattern.now ≡ 10 }
+    ensures { result ≡ option_map (filing_call amends) (fit most_digits pattern.now line.now) }
 {
-    Call::File(Filing {
+    let [
+        maker,
+        set,
+        year,
+        vehicle_use,
+        edition,
+        family,
+        fcl,
+        cf,
+        volume,
+        life,
+    ] = fitted::<10>(pattern, line, MOST_DIGITS)?;
+    Some(Call::File(Filing {
         amends,
-        maker: n[0],
-        set: n[1],
-        year: n[2],
-        vehicle_use: n[3],
-        edition: n[4],
-        family: n[5],
-        fcl: n[6],
-        cf: n[7],
-        volume: n[8],
-        life: n[9],
-    })
+        maker,
+        set,
+        year,
+        vehicle_use,
+        edition,
+        family,
+        fcl,
+        cf,
+        volume,
+        life,
+    }))
 }
 
-fn from_close(line: &[u8]) -> Line
-    ensures { result ≡ first_form from_close line.now }
+fn close(line: &[u8]) -> Option<Call>
+    ensures { result ≡ call_in close line.now }
 {
-    let read = fitted(b"(close (year #))", line, MOST_DIGITS);
-    if read.fits {
-        let n = read.n;
-        return Line::Form(close_of(n));
-    }
-    from_trade(line)
+    let [year] = fitted::<1>(b"(close (year #))", line, MOST_DIGITS)?;
+    Some(Call::Close(year))
 }
 
-fn close_of(n: [u64; MOST_FIGURES]) -> Call
-    ensures { result ≡ close.call n }
+fn trade(line: &[u8]) -> Option<Call>
+    ensures { result ≡ call_in trade line.now }
 {
-    Call::Close(n[0])
-}
-
-fn from_trade(line: &[u8]) -> Line
-    ensures { result ≡ first_form from_trade line.now }
-{
-    let read = fitted(
+    let [from, to, set, vintage, mg] = fitted::<5>(
         b"(trade (from #) (to #) (set #) (vintage #) (mg #))",
         line,
         MOST_DIGITS,
-    );
-    if read.fits {
-        let n = read.n;
-        return Line::Form(trade_of(n));
-    }
-    from_apply(line)
+    )?;
+    Some(Call::Trade(Trade {
+        from,
+        to,
+        set,
+        vintage,
+        mg,
+    }))
 }
 
-fn trade_of(n: [u64; MOST_FIGURES]) -> Call
-    ensures { result ≡ trade.call n }
+fn apply(line: &[u8]) -> Option<Call>
+    ensures { result ≡ call_in apply line.now }
 {
-    Call::Trade(Trade {
-        from: n[0],
-        to: n[1],
-        set: n[2],
-        vintage: n[3],
-        mg: n[4],
-    })
-}
-
-fn from_apply(line: &[u8]) -> Line
-    ensures { result ≡ first_form from_apply line.now }
-{
-    let read = fitted(
+    let [maker, set, vintage, year, mg] = fitted::<5>(
         b"(apply (maker #) (set #) (vintage #) (year #) (mg #))",
         line,
         MOST_DIGITS,
-    );
-    if read.fits {
-        let n = read.n;
-        return Line::Form(apply_of(n));
-    }
-    from_retire(line)
+    )?;
+    Some(Call::Apply(Application {
+        maker,
+        set,
+        vintage,
+        year,
+        mg,
+    }))
 }
 
-fn apply_of(n: [u64; MOST_FIGURES]) -> Call
-    ensures { result ≡ apply.call n }
+fn retire(line: &[u8]) -> Option<Call>
+    ensures { result ≡ call_in retire line.now }
 {
-    Call::Apply(Application {
-        maker: n[0],
-        set: n[1],
-        vintage: n[2],
-        year: n[3],
-        mg: n[4],
-    })
-}
-
-fn from_retire(line: &[u8]) -> Line
-    ensures { result ≡ first_form from_retire line.now }
-{
-    let read = fitted(
+    let [maker, set, vintage, mg] = fitted::<4>(
         b"(retire (maker #) (set #) (vintage #) (mg #))",
         line,
         MOST_DIGITS,
-    );
-    if read.fits {
-        let n = read.n;
-        return Line::Form(retire_of(n));
-    }
-    Line::NoForm
-}
-
-fn retire_of(n: [u64; MOST_FIGURES]) -> Call
-    ensures { result ≡ retire.call n }
-{
-    Call::Retire(Retirement {
-        maker: n[0],
-        set: n[1],
-        vintage: n[2],
-        mg: n[3],
-    })
+    )?;
+    Some(Call::Retire(Retirement {
+        maker,
+        set,
+        vintage,
+        mg,
+    }))
 }

@@ -1,13 +1,11 @@
 // The listing of a book's cells, over what the book layer says there is to show of a cell and a year.
-ghost use Rattle.std.specs.Prelude.{◌≡◌, ◌+◌, ◌*◌, ◌<◌, ◌≤◌, length, take};
+ghost use Rattle.std.specs.Prelude.{◌+◌, ◌*◌, ◌<◌, ◌≤◌, ◌≡◌, length, take, IfSome};
 ghost use Rattle.book.specs.Sizes.{makers, sets, years};
-ghost use Rattle.text.specs.Gather.{gather};
-ghost use Rattle.text.specs.Placing.{Puts, Stands, room_for};
-ghost use Rattle.text.specs.Listing.{cell_text, listing, lot_line, lot_text, maker_text};
-ghost use Rattle.text.specs.Listing.{entry_room, listing_room, shortage_line, shortage_text};
+ghost use Rattle.text.specs.Placing.{Adds, HasRoom, Puts, room_for};
+ghost use Rattle.text.specs.Listing.{cell_text, listing, lot_text, maker_text};
+ghost use Rattle.text.specs.Listing.{entry_room, listing_room, shortage_text};
 
-use crate::patterns::fill;
-use crate::placing::Placed;
+use crate::page::Page;
 use book::ledger::{Book, MAKERS, SETS, YEARS};
 use book::listing::{LotEntry, ShortageEntry, lot_entry, shortage_entry};
 use figuring::years::FIRST_YEAR;
@@ -15,138 +13,104 @@ use figuring::years::FIRST_YEAR;
 // Room for any book's listing: for each of 32 cells and 24 years a lot's line and a shortage's, of 64 bytes each.
 pub const LISTING_ROOM: usize = 98_304;
 
-// Puts the lines of all cells at out's start, and answers the place after them. Where out is shorter than
-// LISTING_ROOM, it is as it was.
-pub fn put_listing(out: &mut [u8], book: Book) -> Placed
+// Puts the lines of all cells at out's start, and gives the place after them. Where out is shorter than LISTING_ROOM
+// there is none, and out is as it was.
+#[tactic(auto, using(crate::proofs::ListingLaws::listing_length, crate::proofs::StoreLaws::in_bounds))]
+pub fn put_listing(out: &mut [u8], book: Book) -> Option<usize>
     ensures puts { Puts (room_for listing_room 0 out.old) (listing book) 0
         out.old result out.new }
-    ensures at_in_bounds { (result.at ≤ length out.new) × (result.at ≡ length (take result.at out.new)) }
+    ensures at_in_bounds { IfSome result (λ at. (at ≤ length out.new) × (at ≡ length (take at out.new))) }
 {
     if out.len() < LISTING_ROOM {
-        return Placed { fits: false, at: 0 };
+        return None;
     }
-    let mut w: usize = 0;
-    let mut maker: u64 = 0;
-    while maker < MAKERS {
-        w = put_maker(out, w, book, maker);
-        maker += 1;
-    }
-    Placed { fits: true, at: w }
+    let mut page = Page::new(out);
+    list_cells(&mut page, &book);
+    Some(page.at)
 }
 
-fn put_maker(out: &mut [u8], at: usize, book: Book, maker: u64) -> usize
-    requires { (at + sets * (years * entry_room + years * entry_room) ≤ length out.old) × (maker < makers) }
-    ensures { Stands (maker_text book maker) at out.old result out.new }
+// `put_listing` on a page with the room.
+pub(crate) fn list_cells(page: &mut Page, book: &Book)
+    requires { HasRoom listing_room page.old }
+    ensures { Adds (listing book.now) page.old page.new }
 {
-    let mut w = at;
-    let mut set: u64 = 0;
-    while set < SETS {
-        w = put_cell(out, w, book, maker, set);
-        set += 1;
+    for maker in 0..MAKERS {
+        put_maker(page, book, maker);
     }
-    w
 }
 
-fn put_cell(out: &mut [u8], at: usize, book: Book, maker: u64, set: u64) -> usize
-    requires { (at + (years * entry_room + years * entry_room) ≤ length out.old)
-        × ((maker < makers) × (set < sets)) }
-    ensures { Stands (cell_text book maker set) at out.old result out.new }
+fn put_maker(page: &mut Page, book: &Book, maker: u64)
+    requires room { HasRoom (sets * (years * entry_room + years * entry_room)) page.old }
+    requires of_the_book { maker < makers }
+    ensures { Adds (maker_text book.now maker) page.old page.new }
 {
-    let w = put_lots(out, at, book.open_year, &book.lots, maker, set);
-    put_shortages(out, w, book.open_year, &book.shortages, maker, set)
+    for set in 0..SETS {
+        put_cell(page, book, maker, set);
+    }
 }
 
-fn put_lots(
-    out: &mut [u8],
-    at: usize,
-    open_year: u64,
-    lots: &[u64; 768],
-    maker: u64,
-    set: u64,
-) -> usize
-    requires { (at + years * entry_room ≤ length out.old) × ((maker < makers) × (set < sets)) }
-    ensures { Stands (gather years (lot_line open_year lots.now maker set)) at
-        out.old result out.new }
+// The lots of a cell, and then its shortages.
+fn put_cell(page: &mut Page, book: &Book, maker: u64, set: u64)
+    requires room { HasRoom (years * entry_room + years * entry_room) page.old }
+    requires of_the_book { (maker < makers) × (set < sets) }
+    ensures { Adds (cell_text book.now maker set) page.old page.new }
 {
-    let mut w = at;
-    let mut i: u64 = 0;
-    while i < YEARS {
-        let entry = lot_entry(open_year, lots, maker, set, FIRST_YEAR + i);
-        w = put_lot(out, w, maker, set, FIRST_YEAR + i, entry);
-        i += 1;
+    for i in 0..YEARS {
+        let year = FIRST_YEAR + i;
+        put_lot(
+            page,
+            maker,
+            set,
+            year,
+            lot_entry(book.open_year, &book.lots, maker, set, year),
+        );
     }
-    w
-}
-
-fn put_shortages(
-    out: &mut [u8],
-    at: usize,
-    open_year: u64,
-    shortages: &[u64; 768],
-    maker: u64,
-    set: u64,
-) -> usize
-    requires { (at + years * entry_room ≤ length out.old) × ((maker < makers) × (set < sets)) }
-    ensures { Stands (gather years (shortage_line open_year shortages.now maker set)) at
-        out.old result out.new }
-{
-    let mut w = at;
-    let mut i: u64 = 0;
-    while i < YEARS {
-        let entry = shortage_entry(open_year, shortages, maker, set, FIRST_YEAR + i);
-        w = put_shortage(out, w, maker, set, FIRST_YEAR + i, entry);
-        i += 1;
+    for i in 0..YEARS {
+        let year = FIRST_YEAR + i;
+        put_shortage(
+            page,
+            maker,
+            set,
+            year,
+            shortage_entry(book.open_year, &book.shortages, maker, set, year),
+        );
     }
-    w
 }
 
 // Puts the line of a lot, where there is one to show.
-fn put_lot(out: &mut [u8], at: usize, maker: u64, set: u64, year: u64, entry: LotEntry) -> usize
-    requires { (at + entry_room ≤ length out.old) × ((maker < 10) × ((set < 10) × (year < 10000))) }
-    ensures { Stands (lot_text maker set year entry) at out.old result out.new }
+#[tactic(auto, using(crate::proofs::ListingLaws::entry_length), unfolding(crate::specs::Pattern::hashes))]
+fn put_lot(page: &mut Page, maker: u64, set: u64, year: u64, entry: Option<LotEntry>)
+    requires room { HasRoom entry_room page.old }
+    requires short { (maker < 10) × ((set < 10) × (year < 10000)) }
+    ensures { Adds (lot_text maker set year entry) page.old page.new }
 {
     match entry {
-        LotEntry::Live(mg) => fill(
-            out,
-            at,
-            b"(lot # # # live #)\n",
-            [maker, set, year, mg.0, 0, 0, 0, 0, 0, 0, 0, 0],
-        ),
-        LotEntry::Expired(mg) => fill(
-            out,
-            at,
+        Some(LotEntry::Live(mg)) => page.fill(b"(lot # # # live #)\n", &[maker, set, year, mg.0]),
+        Some(LotEntry::Expired(mg)) => page.fill(
             b"(lot # # # expired #)\n",
-            [maker, set, year, mg.0, 0, 0, 0, 0, 0, 0, 0, 0],
+            &[maker, set, year, mg.0],
         ),
-        LotEntry::NoLot => at,
+        None => {}
     }
 }
 
-// Puts the line of a shortage, where there is one to show.
-fn put_shortage(
-    out: &mut [u8],
-    at: usize,
-    maker: u64,
-    set: u64,
-    year: u64,
-    entry: ShortageEntry,
-) -> usize
-    requires { (at + entry_room ≤ length out.old) × ((maker < 10) × ((set < 10) × (year < 10000))) }
-    ensures { Stands (shortage_text maker set year entry) at out.old result out.new }
+// Puts the line of a shortage, where there is one to show. That of a lot is no twin: all that the two share is `fill`,
+// and a trait for both entries would only take their patterns out of their arms.
+#[tactic(auto, using(crate::proofs::ListingLaws::entry_length), unfolding(crate::specs::Pattern::hashes))]
+fn put_shortage(page: &mut Page, maker: u64, set: u64, year: u64, entry: Option<ShortageEntry>)
+    requires room { HasRoom entry_room page.old }
+    requires short { (maker < 10) × ((set < 10) × (year < 10000)) }
+    ensures { Adds (shortage_text maker set year entry) page.old page.new }
 {
     match entry {
-        ShortageEntry::Open(mg) => fill(
-            out,
-            at,
+        Some(ShortageEntry::Open(mg)) => page.fill(
             b"(short # # # open #)\n",
-            [maker, set, year, mg.0, 0, 0, 0, 0, 0, 0, 0, 0],
+            &[maker, set, year, mg.0],
         ),
-        ShortageEntry::Overdue(mg) => fill(
-            out,
-            at,
+        Some(ShortageEntry::Overdue(mg)) => page.fill(
             b"(short # # # overdue #)\n",
-            [maker, set, year, mg.0, 0, 0, 0, 0, 0, 0, 0, 0],
+            &[maker, set, year, mg.0],
         ),
-        ShortageEntry::NoShortage => at,
+        None => {}
     }
 }

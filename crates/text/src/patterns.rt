@@ -1,90 +1,32 @@
-// Patterns: texts in which # stands for a number. One loop reads any pattern, one writes any.
-ghost use Rattle.std.specs.Prelude.{◌≡◌, ◌+◌, ◌≤◌, length};
-ghost use Rattle.text.specs.Placing.{Stands};
-ghost use Rattle.text.specs.Pattern.{figures, hashes, filled, most_figures};
+// Patterns: texts in which # stands for a number. This loop reads any pattern; `Page::fill` writes any.
+ghost use Rattle.std.specs.Prelude.{◌≡◌, ◌≤◌};
+ghost use Rattle.text.specs.Pattern.{fit, hashes};
 
-use crate::numbers::{Number, number_at, put_number};
+use crate::numbers::number;
 
-// How many figures a form can have.
-pub const MOST_FIGURES: usize = 12;
-
-// What stands in a text in the places of a pattern's #, 0 after the last; or that the text does not fit.
-#[derive(Clone, Copy)]
-pub struct Figures {
-    pub fits: bool,
-    pub n: [u64; MOST_FIGURES],
-}
-
-// Reads a text against a pattern, in which # stands for a number of at most `most` digits, any other byte for itself.
-pub(crate) fn fitted(pattern: &[u8], text: &[u8], most: usize) -> Figures
-    requires { (hashes pattern.now ≤ most_figures) × (most ≤ 18) }
-    ensures { result ≡ figures most pattern.now text.now }
+// Reads a text against a pattern, in which # stands for a number of at most `most` digits, any other byte for itself: the
+// N numbers in the places of the pattern's #, if the text fits.
+#[tactic(auto, using(crate::proofs::PatternLaws::reads_pattern))]
+pub(crate) fn fitted<const N: usize>(pattern: &[u8], text: &[u8], most: usize) -> Option<[u64; N]>
+    requires { (hashes pattern.now ≡ N) × (most ≤ 18) }
+    ensures { result ≡ fit most pattern.now text.now }
 {
-    let mut n = [0u64; MOST_FIGURES];
-    let mut k: usize = 0;
-    let mut j: usize = 0;
-    let mut i: usize = 0;
-    while i < pattern.len() {
-        let p = pattern[i];
-        i += 1;
-        if p == b'#' {
-            match number_at(text, j, most) {
-                Number::Nothing => {
-                    return Figures {
-                        fits: false,
-                        n: [0; MOST_FIGURES],
-                    };
-                }
-                Number::Read(v, d) => {
-                    n[k] = v;
-                    k += 1;
-                    j += d;
-                }
-            }
-        } else {
-            if j == text.len() {
-                return Figures {
-                    fits: false,
-                    n: [0; MOST_FIGURES],
-                };
-            }
-            if text[j] != p {
-                return Figures {
-                    fits: false,
-                    n: [0; MOST_FIGURES],
-                };
-            }
-            j += 1;
-        }
-    }
-    if j < text.len() {
-        return Figures {
-            fits: false,
-            n: [0; MOST_FIGURES],
-        };
-    }
-    Figures { fits: true, n }
-}
-
-// Puts a pattern into out from at on, with the numbers of n in the places of its #, and answers the place after it.
-pub(crate) fn fill(out: &mut [u8], at: usize, pattern: &[u8], n: [u64; MOST_FIGURES]) -> usize
-    requires pattern_bound { hashes pattern.now ≤ most_figures }
-    requires n_in_bounds { at + length (filled pattern.now n) ≤ length out.old }
-    ensures { Stands (filled pattern.now n) at out.old result out.new }
-{
-    let mut k: usize = 0;
-    let mut w = at;
-    let mut i: usize = 0;
-    while i < pattern.len() {
-        let p = pattern[i];
-        i += 1;
-        if p == b'#' {
-            w = put_number(out, w, n[k]);
+    let mut n = [0; N];
+    let mut k = 0;
+    let mut rest = text;
+    for p in pattern {
+        if *p == b'#' {
+            let (v, d) = number(rest, most)?;
+            n[k] = v;
             k += 1;
+            rest = &rest[d..];
         } else {
-            out[w] = p;
-            w += 1;
+            let (c, after) = rest.split_first()?;
+            if *c != *p {
+                return None;
+            }
+            rest = after;
         }
     }
-    w
+    if rest.is_empty() { Some(n) } else { None }
 }

@@ -1,11 +1,7 @@
--- What has been read so far, from the first desk's book on (TurnLaws); the turns left fall.
-use Rattle.std.proofs.Common.{◌-◌}
-use Rattle.credit_book.specs.Turns.{most_turns}
+-- What has been read so far leaves more to read (TurnLaws).
+use Rattle.credit_book.specs.declared.progress.Progress.{Progress}
 use Rattle.credit_book.proofs.TurnLaws.{SoFar}
 use Rattle.credit_book.proofs.read_all.Given as goal
 
-abbrev pub invariant-loop-more : goal.invariant-loop-more
-invariant-loop-more l = SoFar l.table l.initial.desk.book l.initial.out l.out l.desk l.turns l.more l.fine
-
-abbrev pub decreases-loop-more : goal.decreases-loop-more
-decreases-loop-more l = most_turns - l.turns
+abbrev pub invariant-loop-turns : goal.invariant-loop-turns
+invariant-loop-turns l = SoFar l.table l.fn.book l.initial.out l.out l.desk l.turns Progress.More

@@ -2,4 +2,4 @@ use Rattle.book.proofs.PayLaws.{AtYear}
 use Rattle.book.proofs.covering.pay_all.Given as goal
 
 abbrev pub invariant-loop-i : goal.invariant-loop-i
-invariant-loop-i l = AtYear l.open_year l.initial.lots l.initial.shortages l.c l.i l.lots l.shortages l.moved
+invariant-loop-i l = AtYear l.initial.book l.c l.i l.book l.moved

@@ -1,15 +1,10 @@
 use mathlib.Core.Path.{sym, ◌∙◌}
 use native.Mathlib.Omega.{arith}
-use Rattle.book.proofs.PayLaws.{no_vintage, next_vintage, vintage_fits, vintages_done, not_open_paid}
+use Rattle.book.proofs.PayLaws.{no_vintage, next_vintage, vintage_fits, not_open_paid}
 use Rattle.book.proofs.covering.pay_shortage.Goals as goal
 
 pub loop-i-init : goal.loop-i-init
-loop-i-init c = no_vintage c.requires.0 c.requires.1
-
-pub pay_turn-moved-requires : goal.pay_turn-moved-requires
-pay_turn-moved-requires c =
-    let h = c.loop-i.invariant in
-    (omega (arith, h.ok, c.loop-i-test.true), h.here)
+loop-i-init c = no_vintage c.requires
 
 pub overflow_add-moved : goal.overflow_add-moved
 overflow_add-moved c =
@@ -21,9 +16,6 @@ pub loop-i-preserved : goal.loop-i-preserved
 loop-i-preserved c =
     next_vintage c.loop-i.invariant c.loop-i-test.true
     c.pay_turn-moved.ensures
-
-pub returns-after-loop-i : goal.returns-after-loop-i
-returns-after-loop-i c = vintages_done c.loop-i.invariant c.loop-i-test.false
 
 pub returns-else-is_open : goal.returns-else-is_open
 returns-else-is_open c = not_open_paid _ (sym c.is_open.ensures ∙ c.if-is_open.false)

@@ -1,24 +1,11 @@
 use borrow.Author.Rules.{rules}
-use mathlib.Core.Path.{refl, sym, ◌∙◌}
+use mathlib.Core.Path.{sym, ◌∙◌}
 use Rattle.figuring.proofs.BoolLaws.{denied, granted, and_intro}
 use Rattle.book.specs.Sizes.{makers, sets, families, years}
-use Rattle.figuring.specs.Below.{all_below}
 use Rattle.book.specs.Soundness.{cell_sound, maker_sound, cells_sound}
 use Rattle.figuring.proofs.BelowLaws.{all_more, all_done}
 use Rattle.book.proofs.PlaceLaws.{heard_family, heard_year, family_fault, year_fault}
 use Rattle.book.proofs.soundness.cells_sound.Goals as goal
-
-pub walk-init : goal.walk-init
-unfolding all_below
-walk-init c = (search rules, (search rules, refl))
-
-pub loop-set-init : goal.loop-set-init
-unfolding all_below
-loop-set-init c = (search rules, (search rules, refl))
-
-pub loop-family-init : goal.loop-family-init
-unfolding all_below
-loop-family-init c = (search rules, (search rules, refl))
 
 pub loop-family-preserved : goal.loop-family-preserved
 loop-family-preserved c = (
@@ -29,10 +16,6 @@ loop-family-preserved c = (
         (granted (heard_family _ _ _ c.part-1.given c.part_sound.ensures) c.if-not-part_sound.false-raw),
   ),
 )
-
-pub loop-i-init : goal.loop-i-init
-unfolding all_below
-loop-i-init c = (search rules, (search rules, refl))
 
 pub loop-i-preserved : goal.loop-i-preserved
 loop-i-preserved c = (

@@ -1,25 +1,11 @@
 use borrow.Author.Rules.{rules}
-use mathlib.Core.Path.{refl, sym, ◌∙◌}
+use mathlib.Core.Path.{sym, ◌∙◌}
 use native.Mathlib.Omega.{arith}
 use Rattle.book.specs.Sizes.{sets, years}
-use Rattle.figuring.specs.Below.{all_below}
-use Rattle.book.specs.Below.{sum_below}
 use Rattle.book.specs.Soundness.{set_sound, totals_sound}
 use Rattle.figuring.proofs.BelowLaws.{all_more, all_done}
 use Rattle.book.proofs.PlaceLaws.{total_more, total_done, total_fault}
 use Rattle.book.proofs.soundness.totals_sound.Goals as goal
-
-pub walk-init : goal.walk-init
-unfolding all_below
-walk-init c = (search rules, (search rules, refl))
-
-pub loop-i-init : goal.loop-i-init
-unfolding all_below
-loop-i-init c = (search rules, (search rules, refl))
-
-pub loop-maker-init : goal.loop-maker-init
-unfolding sum_below
-loop-maker-init c = (search rules, (search rules, (refl, search rules)))
 
 pub loop-maker-preserved : goal.loop-maker-preserved
 loop-maker-preserved c = (

@@ -1,11 +1,7 @@
--- What has been read so far (FileLaws); the turns left fall.
-use Rattle.std.proofs.Common.{◌-◌}
-use Rattle.credit_book.specs.Turns.{most_turns}
+-- What has been read so far leaves more to read (FileLaws).
+use Rattle.credit_book.specs.declared.progress.Progress.{Progress}
 use Rattle.credit_book.proofs.FileLaws.{SoFar}
 use Rattle.credit_book.proofs.files.read_text.Given as goal
 
-abbrev pub invariant-loop-more : goal.invariant-loop-more
-invariant-loop-more l = SoFar l.initial.text l.text l.len l.turns l.more l.fine
-
-abbrev pub decreases-loop-more : goal.decreases-loop-more
-decreases-loop-more l = most_turns - l.turns
+abbrev pub invariant-loop : goal.invariant-loop
+invariant-loop l = SoFar l.initial.text l.text l.len l.counter Progress.More

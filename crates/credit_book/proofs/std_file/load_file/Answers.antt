@@ -1,16 +1,18 @@
 use Rattle.std.proofs.Common.{◌∙◌, sym}
+use Rattle.std.proofs.lemmas.Result.{err_from_is_err_and}
 use Rattle.text.proofs.TableTextLaws.{table_texts}
 use Rattle.credit_book.proofs.FileLaws.{comes_to, was_loaded, was_refused}
 use Rattle.credit_book.proofs.std_file.load_file.Goals as goal
 
-pub returns-in-Loaded : goal.returns-in-Loaded
-returns-in-Loaded c =
-    let load = c.load_table-loading.ensures in
-    comes_to table_texts.first_bytes c.read_text-read.auto.text (sym c.end_reading.ensures ∙ c.if-not-end_reading.false) c.read_text-read.ensures
-    (was_loaded _ _ (sym c.in-Loaded.is ∙ load.0) load.1)
+pub returns-in_err-load_table : goal.returns-in_err-load_table
+returns-in_err-load_table c =
+    let p = err_from_is_err_and c.from_residual-in_err-load_table.result c.from_residual-in_err-load_table.ensures.1 in
+    rw (p.1, p.2)
+    (comes_to table_texts.first_bytes c.read_text.auto.text c.in_ok-n.ensures
+    (was_refused _ (sym c.in_err-load_table.was ∙ c.load_table.ensures.0)))
 
-pub returns-in-Refused : goal.returns-in-Refused
-returns-in-Refused c =
-    let load = c.load_table-loading.ensures in
-    comes_to table_texts.first_bytes c.read_text-read.auto.text (sym c.end_reading.ensures ∙ c.if-not-end_reading.false) c.read_text-read.ensures
-    (was_refused _ (sym c.in-Refused.is ∙ load.0))
+pub returns : goal.returns
+returns c =
+    let load = c.load_table.ensures in
+    comes_to table_texts.first_bytes c.read_text.auto.text c.in_ok-n.ensures
+    (was_loaded _ _ (sym c.in_ok-load_table.was ∙ load.0) load.1)

@@ -1,30 +1,15 @@
-use mathlib.Core.Path.{refl, sym}
-use borrow.Author.Rules.{rules}
-use Rattle.figuring.specs.Below.{all_below}
+use Rattle.std.proofs.Common.{rules, ◌∙◌}
+use Rattle.std.proofs.lemmas.Iterator.{YieldsList-from_slice, YieldsList-from_zip}
+use Rattle.std.proofs.lemmas.Iterator.Search.{all_from_yields_List}
 use Rattle.figuring.specs.Grid.{grid_columns}
-use Rattle.figuring.specs.Tables.{fits_at, row_fits}
-use Rattle.figuring.proofs.BelowLaws.{all_more, all_fails, all_done}
-use Rattle.figuring.proofs.BoolLaws.{denied, granted}
+use Rattle.figuring.specs.Tables.{entry_fits, fits_at, row_fits}
+use Rattle.figuring.proofs.BelowLaws.{all_zipped}
 use Rattle.figuring.proofs.tables.row_fits.Goals as goal
 
-pub loop-j-init : goal.loop-j-init
-unfolding all_below
-loop-j-init c = (search rules, refl)
-
-pub returns-then-not-entry_fits : goal.returns-then-not-entry_fits
-unfolding row_fits fits_at
-returns-then-not-entry_fits c =
-    sym (all_fails _ grid_columns c.loop-j.j (search rules)
-    (denied c.entry_fits.ensures c.if-not-entry_fits.true-raw))
-
-pub loop-j-preserved : goal.loop-j-preserved
-unfolding fits_at
-loop-j-preserved c =
-    let v = c.loop-j.invariant in
-    (search rules, all_more _ _ v.1 (granted c.entry_fits.ensures c.if-not-entry_fits.false-raw))
-
 pub returns : goal.returns
-unfolding row_fits
+unfolding row_fits fits_at
 returns c =
-    let v = c.loop-j.invariant in
-    sym (all_done _ grid_columns c.loop-j.j v.0 c.loop-j-test.false v.1)
+    all_from_yields_List (λ q. entry_fits q.0 q.1) c.all.new.self _ _ c.all.ensures.ran
+    (YieldsList-from_zip (YieldsList-from_slice c.args.before cc) (YieldsList-from_slice c.args.row cc))
+    (λ x b q k. search rules)
+    ∙ all_zipped entry_fits c.args.before c.args.row grid_columns (search rules) (search rules)

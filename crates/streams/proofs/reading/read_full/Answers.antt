@@ -1,7 +1,7 @@
-use Rattle.std.proofs.Common.{◌≡◌, ℕ, ◌+◌, ◌-◌, ◌≤◌, List, ◌++◌, rules, arith, length, take, drop, sym, ap, ◌∙◌, subst, le_refl, drop_at, length-take-le}
+use Rattle.std.proofs.Common.{◌≡◌, ℕ, ◌+◌, ◌-◌, ◌≤◌, List, ◌++◌, rules, length, take, drop, sym, ap, ◌∙◌, subst, le_refl, drop_at, length-take-le}
 use Rattle.std.proofs.lemmas.Slice.{take-put_mid_below}
 use Rattle.std.specs.Io.KnownBytes.{Consumes}
-use Rattle.std.proofs.KnownBytes.{Consumes-trans, Consumes-kept}
+use Rattle.std.proofs.KnownBytes.{Consumes-trans}
 use borrow.Rule.Slice.PartMut.{put_mid, post_of}
 use lib.Seq.{take-add, take-append-le}
 use Rattle.streams.proofs.reading.read_full.Goals as goal
@@ -30,23 +30,3 @@ loop-done-preserved g c =
           subst (Consumes _ _) all
           (Consumes-trans _ _ _ _ _ c.loop-done.invariant.bytes c.in-Ok.ensures.bytes.0);
     }
-
--- the end of the input
-pub returns-in-Ok-eq0-clause-bytes : goal.returns-in-Ok-eq0-clause-bytes
-returns-in-Ok-eq0-clause-bytes g c =
-    let n = c.in-Ok-eq0.field-0 in
-    let at = c.loop-done.done in
-    let room = length c.loop-done.buffer - at in
-    let buffer = put_mid at room c.loop-done.buffer c.read.new.buf in
-    let all = joined at room n c.loop-done.buffer c.read.new.buf c.loop-done.invariant.in_bounds c.in-Ok-eq0.ensures.bound.0 in
-    let none : at + n ≡ at = omega (arith, c.in-Ok-eq0.field-0-test) in
-    subst (Consumes _ _) (all ∙ ap (λ (k : ℕ). take k buffer) none)
-    (Consumes-trans _ _ _ _ _ c.loop-done.invariant.bytes c.in-Ok-eq0.ensures.bytes.0)
-
-pub returns-in-Err-clause-bytes : goal.returns-in-Err-clause-bytes
-returns-in-Err-clause-bytes g c =
-    subst (Consumes _ _) (sym (take-put_mid_below _ _ _ _ _ (le_refl _) c.loop-done.invariant.in_bounds))
-    (Consumes-kept _ _ _ _ c.loop-done.invariant.bytes c.in-Err.ensures.bytes)
-
-pub returns-clause-bytes : goal.returns-clause-bytes
-returns-clause-bytes g c = c.loop-done.invariant.bytes

@@ -1,29 +1,25 @@
 use native.Mathlib.Omega.{arith}
-use mathlib.Core.Path.{◌≡◌, sym}
-use lib.ListN.{take}
-use lib.Seq.{length-take-le}
+use mathlib.Core.Path.{◌≡◌, ap, ◌∙◌}
+use lib.ListN.{length}
 use Rattle.text.specs.Answers.{text_of}
-use Rattle.text.proofs.StoreLaws.{at_front, same_long}
+use Rattle.text.specs.Placing.{HasRoom}
+use Rattle.text.proofs.StoreLaws.{front, written_room}
 use Rattle.text.proofs.AnswerLaws.{text_length}
 use Rattle.text.proofs.answering.put_answer.Goals as goal
+use Rattle.text.proofs.answering.put_answer.Goals.{After-new-page}
 
-pub slice_bounds-text-end : goal.slice_bounds-text-end
-slice_bounds-text-end c =
-    omega (
-      arith,
-      same_long c.write_answer-n.ensures,
-      c.write_answer-n.ensures.end_is,
-      text_length
-          c.args.answer,
-    )
+-- The text is put together on a page of its own.
 
-pub slice_bounds-put_bytes-end : goal.slice_bounds-put_bytes-end
-slice_bounds-put_bytes-end c = sym (length-take-le _ _ (omega (arith, same_long c.write_answer-n.ensures, c.write_answer-n.ensures.end_is, text_length c.args.answer)))
+room : (c : After-new-page) → HasRoom (length (text_of c.args.answer)) c.new-page.result
+room c = omega (arith, text_length c.args.answer, c.new-page.ensures.at_start, ap length c.new-page.ensures.untouched)
+
+pub written-requires : goal.written-requires
+written-requires c =
+    written_room c.write_answer.ensures c.new-page.ensures.at_start (room (goal.at.written-requires c).After-new-page)
 
 pub returns : goal.returns
 returns c =
-    let q : take c.write_answer-n.result
-    c.write_answer-n.new.out
-    ≡ text_of c.args.answer =
-    at_front c.write_answer-n.ensures (text_length _) in
-    rw (← q) c.put_bytes.ensures
+    let e : c.written.result.now ≡ text_of c.args.answer =
+    c.written.ensures
+    ∙ front c.write_answer.ensures c.new-page.ensures.at_start (room (goal.at.returns c).After-new-page) in
+    rw e at c.put_bytes.ensures

@@ -1,36 +1,25 @@
 use native.Mathlib.Omega.{arith}
-use Rattle.text.specs.Entries.{rank}
-use Rattle.text.proofs.EntryFacts.{family_test, lot_test, shortage_test}
+use mathlib.Core.Path.{ap}
+use Rattle.book.specs.Ledger.{place}
+use Rattle.text.proofs.EntryFacts.{family_ranks, lot_ranks, shortage_ranks}
 use Rattle.text.proofs.entries.rank_of.Goals as goal
 
--- By the kind of the entry.
+pub returns-in_ok-of-in-Family-clause-rank : goal.returns-in_ok-of-in-Family-clause-rank
+returns-in_ok-of-in-Family-clause-rank c =
+    let k = c.in_ok-of-in-Family.ensures in
+    let f = c.in_ok-of-in-Family.field-0 in
+    family_ranks c.in-Family.is
+    (record { maker = rw k.0 at f.maker_in; set = rw k.1 at f.set_in; number = rw k.2 at f.number_in })
+    (rw (k.0, k.1, k.2) at c.index.ensures.at)
 
-pub part_place-requires : goal.part_place-requires
-part_place-requires c = family_test c.requires c.in-Family.is
+pub returns-in_ok-of-in-Lot-clause-rank : goal.returns-in_ok-of-in-Lot-clause-rank
+returns-in_ok-of-in-Lot-clause-rank c =
+    let k = c.in_ok-of-in-Lot.ensures in
+    lot_ranks (rw k at c.in_ok-of-in-Lot.field-0.inside) c.in-Lot.is
+    (omega (arith, c.index-in-Lot.ensures.at, ap place k))
 
-pub figure_place-requires : goal.figure_place-requires
-figure_place-requires c = lot_test c.requires c.in-Lot.is
-
-pub figure_place-requires-in-Shortage : goal.figure_place-requires-in-Shortage
-figure_place-requires-in-Shortage c = shortage_test c.requires c.in-Shortage.is
-
-pub returns-in-Family : goal.returns-in-Family
-unfolding rank
-returns-in-Family c = (
-  rw c.in-Family.is c.part_place.ensures.0,
-  omega (arith, c.part_place.ensures.1),
-)
-
-pub returns-in-Lot : goal.returns-in-Lot
-unfolding rank
-returns-in-Lot c = (
-  rw c.in-Lot.is (omega (arith, c.figure_place.ensures.0)),
-  omega (arith, c.figure_place.ensures.1),
-)
-
-pub returns-in-Shortage : goal.returns-in-Shortage
-unfolding rank
-returns-in-Shortage c = (
-  rw c.in-Shortage.is (omega (arith, c.figure_place-in-Shortage.ensures.0)),
-  omega (arith, c.figure_place-in-Shortage.ensures.1),
-)
+pub returns-in_ok-of-in-Shortage-clause-rank : goal.returns-in_ok-of-in-Shortage-clause-rank
+returns-in_ok-of-in-Shortage-clause-rank c =
+    let k = c.in_ok-of-in-Shortage.ensures in
+    shortage_ranks (rw k at c.in_ok-of-in-Shortage.field-0.inside) c.in-Shortage.is
+    (omega (arith, c.index-in-Shortage.ensures.at, ap place k))

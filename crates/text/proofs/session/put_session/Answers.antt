@@ -1,22 +1,18 @@
-use Rattle.text.proofs.WholeLaws.{last_room, listing_room_lem, whole}
+use Rattle.text.proofs.WholeLaws.{last_room, cells_room, whole}
 use Rattle.text.proofs.session.put_session.Goals as goal
 
 -- Three texts in a row: the answers, the last line's answer, the listing (WholeLaws).
 
-pub last_at-ended-requires : goal.last_at-ended-requires
-last_at-ended-requires c =
-    last_room c.args.table c.args.book c.args.input.now c.requires c.open_desk.ensures
-    c.take_in-reply.ensures
+pub take_end-requires : goal.take_end-requires
+take_end-requires c =
+    last_room c.args.table c.args.book c.args.input.now c.requires c.open-desk.ensures c.take_chunk.ensures
 
-pub listing_at-requires : goal.listing_at-requires
-listing_at-requires c =
-    listing_room_lem c.args.table c.args.book c.args.input.now c.requires c.open_desk.ensures
-    c.take_in-reply.ensures c.last_at-ended.ensures
+pub list_cells-requires : goal.list_cells-requires
+list_cells-requires c =
+    cells_room c.args.table c.args.book c.args.input.now c.requires c.open-desk.ensures c.take_chunk.ensures
+    c.take_end.ensures
 
 pub returns : goal.returns
 returns c =
-    record {
-      stands = whole c.args.table c.args.book c.args.input.now c.requires c.open_desk.ensures
-          c.take_in-reply.ensures c.last_at-ended.ensures c.listing_at.ensures.stands;
-      upper_bound = c.listing_at.ensures.upper_bound;
-    }
+    whole c.args.table c.args.book c.args.input.now c.requires c.open-desk.ensures c.take_chunk.ensures
+    c.take_end.ensures c.list_cells.ensures

@@ -1,10 +1,5 @@
-use Prim.Native.Nat.{◌-◌}
-use Rattle.figuring.specs.Grid.{grid_years}
 use Rattle.text.proofs.LoadLaws.{Loaded}
 use Rattle.text.proofs.tables.load_table.Given as goal
 
 abbrev pub invariant-loop-i : goal.invariant-loop-i
 invariant-loop-i l = Loaded l.text l.grid l.before l.at l.i
-
-abbrev pub decreases-loop-i : goal.decreases-loop-i
-decreases-loop-i l = grid_years - l.i

@@ -1,43 +1,30 @@
-use borrow.Author.Rules.{rules}
 use native.Mathlib.Omega.{arith}
-use mathlib.Core.Path.{◌≡◌, sym}
+use mathlib.Core.Path.{◌≡◌, sym, ap, ◌∙◌}
 use lib.ListN.{length}
-use lib.Seq.{length-take-le}
-use Rattle.book.specs.Soundness.{sound}
-use Rattle.book.specs.Refusals.{first_refusal}
 use Rattle.text.specs.BookText.{book_text}
-use Rattle.text.specs.Writing.{writing_rows}
-use Rattle.text.proofs.StoreLaws.{same_long}
+use Rattle.text.specs.Placing.{HasRoom}
+use Rattle.text.proofs.StoreLaws.{front, written_room}
 use Rattle.text.proofs.BookRoomLaws.{longest}
-use Rattle.text.proofs.WritingLaws.{refuses, writes}
+use Rattle.text.proofs.WritingLaws.{unsound, put_or_not}
 use Rattle.text.proofs.writing.write_book.Goals as goal
-use Rattle.text.proofs.writing.write_book.Goals.{After-put_book-n, After-writing_verdict-verdict}
+use Rattle.text.proofs.writing.write_book.Goals.{After-new-page}
 
--- The text is put together in an array of the writer's own; the verdict then says whether it is put into the buffer.
+-- The text is put together on a page of the writer's own, and then put into the buffer, if it fits.
 
-verdict_is :
-    (c : After-writing_verdict-verdict)
-    → c.writing_verdict-verdict.result
-    ≡ first_refusal (writing_rows (sound c.args.book) c.put_book-n.result (length c.args.out.now))
-verdict_is c = rw (← c.is_sound.ensures) c.writing_verdict-verdict.ensures
+room : (c : After-new-page) → HasRoom (length (book_text c.args.book.now)) c.new-page.result
+room c = omega (arith, longest c.args.book.now, c.new-page.ensures.at_start, ap length c.new-page.ensures.untouched)
 
-length_is : (c : After-put_book-n) → c.put_book-n.result ≡ length (book_text c.args.book)
-length_is c = omega (arith, c.put_book-n.ensures.end_is)
+pub returns-then-not-is_sound : goal.returns-then-not-is_sound
+returns-then-not-is_sound c = unsound _ _ (sym c.if-not-is_sound.ensures)
 
-pub slice_bounds-text-end : goal.slice_bounds-text-end
-slice_bounds-text-end c =
-    omega (arith, same_long c.put_book-n.ensures, length_is (goal.at.slice_bounds-text-end c).After-put_book-n, longest c.args.book)
+pub written-requires : goal.written-requires
+written-requires c =
+    written_room c.put_book.ensures c.new-page.ensures.at_start (room (goal.at.written-requires c).After-new-page)
 
-pub slice_bounds-put_bytes-end : goal.slice_bounds-put_bytes-end
-slice_bounds-put_bytes-end c =
-    sym (length-take-le _ _
-    (omega (arith, same_long c.put_book-n.ensures, length_is (goal.at.slice_bounds-put_bytes-end c).After-put_book-n, longest c.args.book)))
-
-pub returns-in-Refuse : goal.returns-in-Refuse
-returns-in-Refuse c =
-    refuses _ _ (verdict_is (goal.at.returns-in-Refuse c).After-writing_verdict-verdict) (length_is (goal.at.returns-in-Refuse c).After-put_book-n) c.in-Refuse.is
-
-pub returns-in-Accepted : goal.returns-in-Accepted
-returns-in-Accepted c =
-    writes _ _ (verdict_is (goal.at.returns-in-Accepted c).After-writing_verdict-verdict) (length_is (goal.at.returns-in-Accepted c).After-put_book-n) (search rules)
-    c.put_book-n.ensures c.put_bytes.ensures c.in-Accepted.is
+pub returns : goal.returns
+returns c =
+    let e : c.written.result.now ≡ book_text c.args.book.now =
+    c.written.ensures
+    ∙ front c.put_book.ensures c.new-page.ensures.at_start (room (goal.at.returns c).After-new-page) in
+    rw c.ok_or.ensures.value
+    (put_or_not c.args.book.now c.args.out.now (sym c.if-not-is_sound.ensures) (rw e at c.put_bytes.ensures))

@@ -1,1 +1,0 @@
--- The rows lie within the record.

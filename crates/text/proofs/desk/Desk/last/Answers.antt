@@ -1,0 +1,12 @@
+use native.Mathlib.Omega.{arith}
+use borrow.Author.Rules.{rules}
+use borrow.Author.Tests.{le-leb}
+use Rattle.text.specs.Desk.{at_desk}
+use Rattle.text.proofs.DeskLaws.{replied, ends_length}
+use Rattle.text.proofs.desk.Desk.last.Goals as goal
+
+pub returns : goal.returns
+returns c =
+    replied (le-leb _ _ c.if-out-lt-ANSWER_ROOM.false) c.take_end.ensures c.new-page.ensures.at_start
+    c.new-page.ensures.untouched (search rules)
+    (omega (arith, c.if-out-lt-ANSWER_ROOM.false, ends_length c.args.table (at_desk c.args.self.now)))

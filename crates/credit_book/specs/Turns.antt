@@ -3,6 +3,9 @@
 -- t is the table of standards, one for the whole run, b the book that it begins with, and x a terminal.
 use Rattle.std.specs.Prelude.{ℕ, zero, suc, ◌≤◌, Bool, true, false, ◌≡◌, ◌≢◌, List, [], ◌∷◌, ◌++◌, length, take, None, Result, Ok, Err, IsSomeAnd}
 use Rattle.std.specs.Result.{result_unwrap_or}
+use Rattle.std.specs.IoError.{error_kind}
+use Rattle.std.specs.declared.io.Error.{Error}
+use Rattle.std.specs.declared.io.ErrorKind.{ErrorKind}
 use Rattle.figuring.specs.Tables.{Table}
 use Rattle.book.specs.declared.ledger.Book.{Book}
 use Rattle.text.specs.declared.desk.Desk.{Desk}
@@ -33,6 +36,11 @@ most_turns = 18446744073709551615
 pub record Delivered (x : Terminal) (out : List ℕ) (d : Desk) (wrote : Wrote) (out' : List ℕ) : Type 0 where
   pub desk_is : at_desk d ≡ written x
   pub stands : Stands x.said 0 out wrote.handed out'
+
+-- why a read gave no bytes, by its error's kind: an interrupted one is no failure
+abbrev pub LapseBy : Error → Lapse → Type 0
+LapseBy why Lapse.Interrupted = error_kind why ≡ ErrorKind.Interrupted
+LapseBy why Lapse.Failed = error_kind why ≢ ErrorKind.Interrupted
 
 -- how many bytes a read gave: none where it failed
 abbrev pub count : Result ℕ Lapse → ℕ

@@ -13,6 +13,10 @@ pub enum Lapse {
 }
 
 impl From<io::Error> for Lapse {
+    ghost use Rattle.credit_book.specs.Turns.{LapseBy};
+
+    ghost from_gives = { λ why lapse. LapseBy why lapse };
+
     fn from(why: io::Error) -> Lapse {
         match why.kind() {
             ErrorKind::Interrupted => Lapse::Interrupted,

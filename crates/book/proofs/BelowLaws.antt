@@ -112,10 +112,6 @@ one_if_small true = omega arith
 one_if_small false = omega arith
 
 -- ---- sums of signed numbers
-pub sum_ℤ_more : (f : ℕ → ℤ) (n : ℕ) → sum_below_ℤ (n + 1) f ≡ sum_below_ℤ n f +ℤ f n
-unfolding sum_below_ℤ
-sum_ℤ_more f n = rw add-one
-
 -- terms of size at most k add up to at most n * k
 pub sum_ℤ_small : (f : ℕ → ℤ) (n k : ℕ) → ((i : ℕ) → i < n → nat_abs (f i) ≤ k) → nat_abs (sum_below_ℤ n f) ≤ n * k
 unfolding sum_below_ℤ

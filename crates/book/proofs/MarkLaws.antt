@@ -1,14 +1,13 @@
 -- Setting a family's bit.
 use Prim.Native.Nat.{ℕ, zero, suc, ◌+◌, ◌-◌, ◌/◌, ◌%◌, ◌^◌, ◌≤◌, ◌<◌}
 use mathlib.Core.Bool.{true, false, true≢false}
-use mathlib.Core.Path.{◌≡◌, refl, sym, ◌∙◌, ap, ap₂}
+use mathlib.Core.Path.{◌≡◌, refl, sym, ◌∙◌, ap}
 use native.Mathlib.Omega.{arith}
 use native.Mathlib.Nat.{one-mul, pow-suc, div-eq_of_lt}
 use native.Mathlib.Decide.{dec_lt, ℕ_discrete}
 use lib.Dec.{eqb}
 use lib.Bits.{bit_or, or_shr, or_mod, or_zero_r}
 use lib.Pow.{pow-lt, pow-add, shl-shr, shr-shr}
-use lib.Count.{ones, ones_step}
 use Rattle.std.proofs.Math.Nat.{pow-le-pow_right}
 use Rattle.book.specs.Ledger.{marked, with_mark}
 
@@ -51,13 +50,6 @@ pub marked_other : (mark f g : ℕ) → (g ≡ f → ⊥) → marked (with_mark 
 unfolding marked with_mark
 marked_other mark f g ne =
     ap (λ (x : ℕ). eqb x 1) (or_digit mark (2 ^ f) g ∙ ap (bit_or (mark / 2 ^ g % 2)) (other_digit f g ne) ∙ or_zero_r (mark / 2 ^ g % 2))
-
--- one family more
-ones_even : (q : ℕ) → q % 2 ≡ 0 → ones (bit_or q 1) ≡ ones q + 1
-ones_even q h =
-    ones_step (bit_or q 1)
-    ∙ ap₂ (λ (x y : ℕ). x + ones y) (or_mod q 1 1 ∙ ap (λ (x : ℕ). bit_or x 1) h) (or_shr q 1 1 ∙ or_zero_r (q / 2))
-    ∙ (let e : ones q ≡ q % 2 + ones (q / 2) = ones_step q in omega arith)
 
 -- ---- a mark is given by its digits
 same_digit : (x y : ℕ) → x < 2 → y < 2 → eqb x 1 ≡ eqb y 1 → x ≡ y

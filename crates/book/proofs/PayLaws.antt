@@ -5,11 +5,12 @@ use mathlib.Core.List.{List, [], ◌∷◌, ◌++◌, map, append_assoc}
 use mathlib.Core.Path.{◌≡◌, refl, sym, ◌∙◌, ap, ap₂, subst}
 use native.Mathlib.Omega.{arith}
 use lib.ListN.{length}
-use Rattle.figuring.specs.Years.{first_year}
+use Rattle.figuring.specs.Years.{first_year, last_year}
 use Rattle.figuring.specs.Life.{open_short}
 use Rattle.book.specs.Sizes.{years, places}
 use Rattle.book.specs.Accounts.{only}
-use Rattle.book.specs.Ledger.{key, lower}
+use Rattle.book.specs.Ledger.{Key, key, lower}
+use Rattle.book.specs.Places.{key_of, cell_of}
 use Rattle.book.specs.Coverage.{Standing, Turn, turn, Payment, amount, after, paying, payments, rising, turns, model_years, coverage, total}
 use Rattle.book.specs.Covering.{application, in_lists, in_book, lots_paid, shortages_paid, all_applied, moved_by, Coverable}
 use Rattle.book.specs.Postings.{moved}
@@ -18,6 +19,8 @@ use Rattle.book.specs.Companions.{Sized}
 use Rattle.book.specs.declared.ledger.Book.{Book}
 use Rattle.book.specs.declared.kinds.Application.{Application}
 use Rattle.book.specs.declared.kinds.Cover.{Cover}
+use Rattle.book.specs.declared.places.Place.{Place}
+use Rattle.book.proofs.PlaceLaws.{counted, counted_on}
 use Rattle.book.proofs.SoundnessLaws.{sound_is}
 use Rattle.book.proofs.TurnLaws.{still, left_after}
 use Rattle.book.proofs.CoverTurns.{lower_none, turns_stand}
@@ -269,35 +272,47 @@ module _ {b : Book} {c : Cover} where
   unfolding rising turns
   no_year h = record { passed = omega arith; ok = h; paid = paid_none }
 
-  module _ {y i n m : ℕ} {d e : Book} (h : AtVintage b c y i d n) (t : i < years) where
-    pub next_vintage : Paid d c (turn y (first_year + i) ∷ []) e m → AtVintage b c y (i + 1) e (n + m)
+  module _ {y v n m : ℕ} {d e : Book} (h : AtVintage b c y (v - first_year) d n) (f : first_year ≤ v) (t : v ≤ last_year) where
+    pub next_vintage : Paid d c (turn y v ∷ []) e m → AtVintage b c y (v + 1 - first_year) e (n + m)
     next_vintage p =
-        record { passed = omega arith; ok = h.ok; paid = rw (vintages_on y i) (paid_more h.ok h.paid p) }
+        rw (counted_on v f)
+        (record { passed = omega arith; ok = h.ok; paid = rw (vintages_on y (v - first_year), counted v f) (paid_more h.ok h.paid p) })
 
-    pub vintage_fits : Paid d c (turn y (first_year + i) ∷ []) e m → n + m < 2 ^ 64
+    pub vintage_fits : Paid d c (turn y v ∷ []) e m → n + m < 2 ^ 64
     vintage_fits p =
-        paid_small h.ok (paid_more h.ok h.paid p) (map (turn y) (rising (first_year + i + 1) (years - (i + 1))))
-        (subst (Payable b c)
-        (vintages_split y i t
-        ∙ sym (append_assoc (vintages_passed y i) (turn y (first_year + i) ∷ [])
-        (map (turn y) (rising (first_year + i + 1) (years - (i + 1)))))) h.ok)
+        let i = v - first_year in
+        let later = λ (z : ℕ). map (turn y) (rising (z + 1) (years - (i + 1))) in
+        let split : turns_of y ≡ vintages_passed y i ++ ((turn y v ∷ []) ++ later v) =
+        subst (λ (z : ℕ). turns_of y ≡ vintages_passed y i ++ ((turn y z ∷ []) ++ later z)) (counted v f)
+        (vintages_split y i (omega arith)) in
+        paid_small h.ok (paid_more h.ok h.paid p) (later v)
+        (subst (Payable b c) (split ∙ sym (append_assoc (vintages_passed y i) (turn y v ∷ []) (later v))) h.ok)
 
-  module _ {i n : ℕ} {d : Book} (h : AtYear b c i d n) (t : i < years) where
-    pub year_payable : Payable d c (turns_of (first_year + i))
-    year_payable =
-        payable_next h.ok h.paid (turns_of (first_year + i)) (turns (rising (first_year + i + 1) (years - (i + 1))) model_years)
-        (subst (Payable b c) (years_split i t) h.ok)
+  module _ {y n : ℕ} {d : Book} (h : AtYear b c (y - first_year) d n) (f : first_year ≤ y) (t : y ≤ last_year) where
+    abbrev later : ℕ → List Turn
+    later z = turns (rising (z + 1) (years - (y - first_year + 1))) model_years
 
-    pub next_year : {m : ℕ} {e : Book} → Paid d c (turns_of (first_year + i)) e m → AtYear b c (i + 1) e (n + m)
-    next_year p = record { passed = omega arith; ok = h.ok; paid = rw (years_on i) (paid_more h.ok h.paid p) }
+    split : all_turns ≡ years_passed (y - first_year) ++ (turns_of y ++ later y)
+    split =
+        subst (λ (z : ℕ). all_turns ≡ years_passed (y - first_year) ++ (turns_of z ++ later z)) (counted y f)
+        (years_split (y - first_year) (omega arith))
 
-    pub year_fits : {m : ℕ} {e : Book} → Paid d c (turns_of (first_year + i)) e m → n + m < 2 ^ 64
+    pub year_payable : Payable d c (turns_of y)
+    year_payable = payable_next h.ok h.paid (turns_of y) (later y) (subst (Payable b c) split h.ok)
+
+    pub next_year : {m : ℕ} {e : Book} → Paid d c (turns_of y) e m → AtYear b c (y + 1 - first_year) e (n + m)
+    next_year p =
+        rw (counted_on y f)
+        (record { passed = omega arith; ok = h.ok; paid = rw (years_on (y - first_year), counted y f) (paid_more h.ok h.paid p) })
+
+    pub year_fits : {m : ℕ} {e : Book} → Paid d c (turns_of y) e m → n + m < 2 ^ 64
     year_fits p =
-        paid_small h.ok (paid_more h.ok h.paid p) (turns (rising (first_year + i + 1) (years - (i + 1))) model_years)
-        (subst (Payable b c)
-        (years_split i t
-        ∙ sym (append_assoc (years_passed i) (turns_of (first_year + i))
-        (turns (rising (first_year + i + 1) (years - (i + 1))) model_years))) h.ok)
+        paid_small h.ok (paid_more h.ok h.paid p) (later y)
+        (subst (Payable b c) (split ∙ sym (append_assoc (years_passed (y - first_year)) (turns_of y) (later y))) h.ok)
+
+-- a place by its key: of the cover's cell, and of a year
+pub named : (p : Place) (c : Cover) (y : ℕ) → key_of p ≡ key c.maker c.set y → (cell_of p ≡ c) × (p.year ≡ y)
+named p c y e = (ap (λ (k : Key). record { maker = k.maker; set = k.set }) e, ap (λ (k : Key). k.year) e)
 
 -- ---- a whole cover
 pub cover_payable : (b : Book) (c : Cover) → Sized b → Coverable b c → moved_by b c < 2 ^ 64 → Payable b c all_turns

@@ -1,5 +1,5 @@
 -- The walks of the soundness test: what they read, as the specification says it, and that one fault decides.
-use Prim.Native.Nat.{ℕ, zero, suc, ◌+◌, ◌*◌, ◌^◌, ◌<◌, ◌≤◌}
+use Prim.Native.Nat.{ℕ, zero, suc, ◌+◌, ◌-◌, ◌*◌, ◌^◌, ◌<◌, ◌≤◌}
 use mathlib.Core.Bool.{Bool, true, false, ◌||◌}
 use mathlib.Core.List.{List}
 use mathlib.Core.Path.{◌≡◌, refl, sym, ◌∙◌, ap, ap₂}
@@ -19,7 +19,9 @@ use Rattle.figuring.proofs.SignedLaws.{heard}
 use Rattle.book.specs.Sizes.{makers, sets, families, years, places, lots_most}
 use Rattle.figuring.specs.Below.{all_below}
 use Rattle.book.specs.Below.{any_below, sum_below}
-use Rattle.book.specs.Ledger.{key, cell, figure_at, part_at, has_shortage}
+use Rattle.book.specs.Places.{key_of}
+use Rattle.book.specs.declared.places.Place.{Place}
+use Rattle.book.specs.Ledger.{In, key, cell, figure_at, part_at, has_shortage}
 use Rattle.book.specs.Soundness.{part_sound, family_sound, figures_sound, year_sound, cell_sound, maker_sound, cells_sound}
 use Rattle.book.specs.Soundness.{lot_of, total_sound, set_sound, totals_sound}
 use Rattle.book.specs.declared.ledger.Book.{Book}
@@ -27,10 +29,22 @@ use Rattle.figuring.proofs.BelowLaws.{all_fails}
 use Rattle.book.proofs.BelowLaws.{sum_more, sum_rises, sum_done}
 use Rattle.figuring.proofs.BoolLaws.{first_fails, second_fails}
 
--- where a year, counted from the first, stands
+-- ---- a year, counted from the first
+module _ (y : ℕ) (h : first_year ≤ y) where
+  pub counted : first_year + (y - first_year) ≡ y
+  counted = omega arith
+
+  pub counted_on : y + 1 - first_year ≡ (y - first_year) + 1
+  counted_on = omega arith
+
+-- where it stands
 pub at_year : (l : List ℕ) (m s i : ℕ) → figure_at l (key m s (first_year + i)) ≡ get_or l ((m * sets + s) * years + i) 0
 unfolding figure_at
 at_year l m s i = ap (λ (n : ℕ). get_or l ((m * sets + s) * years + n) 0) (omega arith)
+
+-- a place is one of the book
+pub of_the_book : (p : Place) → In (key_of p)
+of_the_book p = record { maker = p.cell.maker_in; set = p.cell.set_in; from = p.from; upto = p.upto }
 
 -- ---- what is said of the figures read
 pub heard_family :
@@ -42,15 +56,11 @@ unfolding family_sound
 heard_family b c f g e = heard (part_sound (get_or b.marks c 0) f) (part_at b.parts c f) g e
 
 pub heard_year :
-    (b : Book) (m s i : ℕ) {r : Bool}
-    → r
-    ≡ figures_sound b.open_year (first_year + i) (get_or b.lots ((m * sets + s) * years + i) 0)
-    (get_or b.shortages ((m * sets + s) * years + i) 0)
-    → r ≡ year_sound b m s i
+    (b : Book) (m s y : ℕ) {r : Bool} → first_year ≤ y
+    → r ≡ figures_sound b.open_year y (figure_at b.lots (key m s y)) (figure_at b.shortages (key m s y))
+    → r ≡ year_sound b m s (y - first_year)
 unfolding year_sound
-heard_year b m s i e =
-    e
-    ∙ sym (ap₂ (figures_sound b.open_year (first_year + i)) (at_year b.lots m s i) (at_year b.shortages m s i))
+heard_year b m s y h e = rw (counted y h) e
 
 -- ---- one fault decides
 cell_fault : (b : Book) (m s : ℕ) → m < makers → s < sets → cell_sound b m s ≡ false → cells_sound b ≡ false
@@ -71,23 +81,26 @@ year_fault b m s i hm hs hi e =
 
 -- the lots of one set and year already pass the most with maker m's
 pub total_fault :
-    (l : List ℕ) (s i m : ℕ)
-    → s < sets → i < years → m < makers
-    → lots_most < sum_below m (lot_of l s i) + get_or l ((m * sets + s) * years + i) 0
+    (l : List ℕ) (s y m : ℕ)
+    → first_year ≤ y → s < sets → y - first_year < years → m < makers
+    → lots_most < sum_below m (lot_of l s (y - first_year)) + figure_at l (key m s y)
     → totals_sound l ≡ false
 unfolding totals_sound set_sound total_sound
-total_fault l s i m hs hi hm h =
+total_fault l s y m g hs hi hm h =
+    let i = y - first_year in
     let f = lot_of l s i in
+    let k : lots_most < sum_below m f + f m = rw (counted y g) h in
     all_fails (set_sound l) sets s hs
     (all_fails (total_sound l s) years i hi
-    (lt-leb (sum_below makers f) lots_most
-    (omega (arith, sum_more f m, at_year l m s i, sum_rises f makers (m + 1) (omega arith)))))
+    (lt-leb (sum_below makers f) lots_most (omega (arith, k, sum_more f m, sum_rises f makers (m + 1) (omega arith)))))
 
 -- ---- a sum of all makers' lots within the most
 pub total_more :
-    (l : List ℕ) (s i m : ℕ)
-    → sum_below (m + 1) (lot_of l s i) ≡ sum_below m (lot_of l s i) + get_or l ((m * sets + s) * years + i) 0
-total_more l s i m = omega (arith, sum_more (lot_of l s i) m, at_year l m s i)
+    (l : List ℕ) (s y m : ℕ) → first_year ≤ y
+    → sum_below (m + 1) (lot_of l s (y - first_year)) ≡ sum_below m (lot_of l s (y - first_year)) + figure_at l (key m s y)
+total_more l s y m h =
+    let f = lot_of l s (y - first_year) in
+    sum_more f m ∙ ap (λ (k : ℕ). sum_below m f + figure_at l (key m s k)) (counted y h)
 
 pub total_done :
     (l : List ℕ) (s i m : ℕ)

@@ -6,12 +6,12 @@ use native.Mathlib.Omega.{arith}
 use lib.IntN.{pos}
 use Rattle.figuring.specs.Tables.{Table}
 use Rattle.book.specs.Refusals.{Answered, number_of, refusal_in, values_in, result_in}
-use Rattle.book.specs.Rules.{posted}
+use Rattle.book.specs.Rules.{posted, answered}
 use Rattle.book.specs.Demand3.{is_accepted}
 use Rattle.book.specs.Demand1.{Demand1}
 use Rattle.book.specs.declared.ledger.Book.{Book}
 use Rattle.book.specs.declared.kinds.Call.{Call}
-use Rattle.std.specs.Prelude.{Ok, Err, is_ok}
+use Rattle.std.specs.Prelude.{Ok, Err, is_ok, cond}
 use Rattle.book.specs.declared.answers.Posted.{Posted}
 use Rattle.book.specs.declared.answers.Refusal.{Refusal}
 use Rattle.book.specs.declared.answers.Refusal.TheVariants.{NotAForm, UnsoundBook, UnknownMaker, UnknownSet}
@@ -76,14 +76,13 @@ demand1 t b c =
           (λ s e a. absurd (true≢false (sym (lawful t b c s e).answered ∙ a)));
     }
 
--- a step that did not accept leaves the book: so nothing need be stored back
-pub left_alone :
-    (t : Table) (b : Book) (c : Call) {p : Posted} → p ≡ posted t b c → is_ok p.answer ≡ false
-    → (p.answer ≡ (posted t b c).answer) × (b ≡ (posted t b c).book)
+-- what is stored back is the call's own book
+pub stored_so :
+    (t : Table) (b : Book) (c : Call) {p : Posted} {a : Answered} {d : Book}
+    → p ≡ posted t b c → a ≡ p.answer → d ≡ cond (is_ok p.answer) p.book b → answered a d ≡ posted t b c
 unfolding is_accepted
-left_alone t b c {p} e k =
-    (ap (λ (q : Posted). q.answer) e, sym ((demand1 t b c).unchanged (go (posted t b c).answer (rw e at k))))
+stored_so t b c {p} e h k = rw (h, k, e) (ap (answered (posted t b c).answer) (go (posted t b c).answer refl))
   where
-    go : (a : Answered) → is_ok a ≡ false → is_accepted a ≡ false
-    go (Ok a) k = k
-    go (Err r) k = refl
+    go : (a : Answered) → a ≡ (posted t b c).answer → cond (is_ok a) (posted t b c).book b ≡ (posted t b c).book
+    go (Ok a) k = refl
+    go (Err r) k = sym ((demand1 t b c).unchanged (rw (← k) refl))

@@ -28,6 +28,10 @@ pub record In (k : Key) : Type 0 where
   pub from : first_year ≤ k.year
   pub upto : k.year ≤ last_year
 
+-- whether a maker and a set are the book's
+unfoldable pub is_cell : ℕ → ℕ → Bool
+is_cell m s = ltb m makers && ltb s sets
+
 -- whether a maker, a set and a family number are the book's
 unfoldable pub is_family : ℕ → ℕ → ℕ → Bool
 is_family m s n = ltb m makers && (ltb s sets && ltb n families)

@@ -5,6 +5,7 @@ pub mod Ledger
 pub mod Places
 pub mod Soundness
 pub mod Refusals
+pub mod Calls
 pub mod Postings
 pub mod Rules
 pub mod Accounts

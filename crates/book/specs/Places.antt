@@ -4,7 +4,7 @@ use Rattle.book.specs.declared.places.Place.{Place}
 use Rattle.book.specs.declared.kinds.Cover.{Cover}
 
 abbrev pub key_of : Place → Key
-key_of p = key p.maker p.set p.year
+key_of p = key p.cell.maker p.cell.set p.year
 
 abbrev pub cell_of : Place → Cover
-cell_of p = record { maker = p.maker; set = p.set }
+cell_of p = record { maker = p.cell.maker; set = p.cell.set }

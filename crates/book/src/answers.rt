@@ -1,5 +1,5 @@
 // What a call answers. specs/Refusals.antt gives document 01's number and values for each case.
-ghost use Rattle.std.specs.Prelude.{◌≡◌};
+ghost use Rattle.std.specs.Prelude.{◌≡◌, cond, is_ok};
 ghost use Rattle.book.specs.Refusals.{number_of};
 
 use crate::ledger::Book;
@@ -52,9 +52,25 @@ pub enum Answer {
     Left(Mg),
 }
 
-// The answer to a call, or what refuses it; and the book after it.
+// The answer to a call, or what refuses it; and the book after it. Each step by value works on the book that it was handed
+// and gives it back so, in two lines: one function for all of them would be handed the step as a closure, in as many.
 #[derive(Clone, Copy)]
 pub struct Posted {
     pub answer: Result<Answer, Refusal>,
     pub book: Book,
+}
+
+impl Posted {
+    // Stores the book of an accepted call in the place of the one that it was handed. A refusal leaves that as it was, so
+    // of one nothing is stored.
+    #[inline(always)]
+    pub(crate) fn store(self, book: &mut Book) -> Result<Answer, Refusal>
+        ensures answer { result ≡ self.answer }
+        ensures stored { book.new ≡ cond (is_ok self.answer) self.book book.old }
+    {
+        if self.answer.is_ok() {
+            *book = self.book;
+        }
+        self.answer
+    }
 }

@@ -25,16 +25,8 @@ fn applied(book: &mut Book, p: Application) -> Result<Answer, Refusal>
     ensures { (table : Table) → answered result book.new ≡ posted table book.old (Call.Apply p) }
 {
     apply_verdict(book, p)?;
-    let lot = Place {
-        maker: p.maker,
-        set: p.set,
-        year: p.vintage,
-    };
-    let shortage = Place {
-        maker: p.maker,
-        set: p.set,
-        year: p.year,
-    };
+    let lot = Place::at(p.maker, p.set, p.vintage);
+    let shortage = Place::at(p.maker, p.set, p.year);
     let left = lower_figure(&mut book.lots, lot, p.mg);
     lower_figure(&mut book.shortages, shortage, p.mg);
     Ok(Answer::Left(Mg(left)))
@@ -60,16 +52,8 @@ fn apply_verdict(book: &Book, p: Application) -> Result<(), Refusal>
     if !is_open(book.open_year, p.year) {
         return Err(Refusal::NoOpenShortage);
     }
-    let lot = Place {
-        maker: p.maker,
-        set: p.set,
-        year: p.vintage,
-    };
-    let shortage = Place {
-        maker: p.maker,
-        set: p.set,
-        year: p.year,
-    };
+    let lot = Place::at(p.maker, p.set, p.vintage);
+    let shortage = Place::at(p.maker, p.set, p.year);
     let lacks = figure_at(&book.shortages, shortage);
     if lacks == 0 {
         return Err(Refusal::NoOpenShortage);

@@ -1,11 +1,10 @@
 // Close: nets the open year's parts into lots and shortages, and opens the next year.
-ghost use Rattle.std.specs.Prelude.{◌≡◌, true, ℕ, ◌-◌, ◌<◌, ◌≤◌, ltb, nat_abs};
+ghost use Rattle.std.specs.Prelude.{◌≡◌, true, ℕ, ◌-◌, ◌<◌, ◌≤◌, ltb, nat_abs, length, get_or, pos};
 ghost use Rattle.figuring.specs.Tables.{Table};
 ghost use Rattle.figuring.specs.Years.{first_year, last_year};
 ghost use Rattle.figuring.specs.Parts.{part_most};
 ghost use Rattle.book.specs.Sizes.{cells, families};
-ghost use Rattle.book.specs.Below.{count_below};
-ghost use Rattle.book.specs.Ledger.{part_at, cell_sum};
+ghost use Rattle.book.specs.Below.{count_below, sum_below_ℤ};
 ghost use Rattle.book.specs.Soundness.{sound};
 ghost use Rattle.book.specs.Refusals.{first_refusal};
 ghost use Rattle.book.specs.Postings.{netted, earned_by, short_by, moved};
@@ -14,7 +13,8 @@ ghost use Rattle.book.specs.declared.kinds.Call.{Call};
 
 use crate::answers::{Answer, Posted, Refusal};
 use crate::head::head_verdict;
-use crate::ledger::{ALL_CLOSED, Book, CELLS, FAMILIES, YEARS};
+use crate::ledger::{ALL_CLOSED, Book, CELLS, FAMILIES, PARTS};
+use figuring::grid::YEARS;
 use figuring::netting::net_of;
 use figuring::units::Part;
 use figuring::years::FIRST_YEAR;
@@ -33,8 +33,8 @@ fn closed(book: &mut Book, year: u64) -> Result<Answer, Refusal>
     close_verdict(book, year)?;
     let short = net_cells(book);
     book.open_year += 1;
-    book.marks = [0; 32];
-    book.parts = [0; 2048];
+    book.marks = [0; CELLS];
+    book.parts = [0; PARTS];
     Ok(Answer::Closed(short))
 }
 
@@ -52,8 +52,8 @@ fn close_verdict(book: &Book, year: u64) -> Result<(), Refusal>
     Ok(())
 }
 
-// Writes the lots and the shortages of the year closed; how many cells closed short. A cell's number says where its
-// parts stand and where both figures go, so the loop counts it.
+// Writes the lots and the shortages of the year closed; how many cells closed short. Both figures go to one place, by its
+// index: of rows lent by `chunks_exact_mut` a proof learns how long they are, and not what was written.
 fn net_cells(book: &mut Book) -> u64
     requires { (sound book.old ≡ true) × (book.old.open_year ≤ last_year) }
     ensures book { book.new ≡ moved book.old
@@ -61,27 +61,23 @@ fn net_cells(book: &mut Book) -> u64
         (netted (book.old.open_year - first_year) (short_by book.old) cells book.old.shortages) }
     ensures short { result ≡ count_below cells (λ c. ltb 0 (short_by book.old c)) }
 {
-    let i = book.open_year - FIRST_YEAR;
+    let i = (book.open_year - FIRST_YEAR) as usize;
     let mut short = 0;
-    for cell in 0..CELLS {
-        let net = net_of(cell_sum(&book.parts, cell));
+    for (cell, parts) in book.parts.chunks_exact(FAMILIES as usize).enumerate() {
+        let net = net_of(sum_of(parts));
         let lacks = net.shortfall().0;
-        book.lots[(cell * YEARS + i) as usize] = net.earned().0;
-        book.shortages[(cell * YEARS + i) as usize] = lacks;
+        let at = cell * YEARS + i;
+        book.lots[at] = net.earned().0;
+        book.shortages[at] = lacks;
         short += u64::from(lacks > 0);
     }
     short
 }
 
-// The sum of a cell's parts. In a loop: of what a chain sums no bound is known at each step, and it may not overflow.
-fn cell_sum(parts: &[i64; 2048], cell: u64) -> Part
-    requires { (cell < cells) × ((f : ℕ) → f < families → nat_abs (part_at parts.now cell f) ≤ part_most) }
-    ensures { result.0 ≡ cell_sum parts.now cell }
+// The sum of a cell's parts.
+fn sum_of(parts: &[i64]) -> Part
+    requires { (length parts.now ≤ families) × ((f : ℕ) → f < families → nat_abs (get_or parts.now f (pos 0)) ≤ part_most) }
+    ensures { result.0 ≡ sum_below_ℤ (length parts.now) (λ f. get_or parts.now f (pos 0)) }
 {
-    let first = (cell * FAMILIES) as usize;
-    let mut sum: i64 = 0;
-    for part in &parts[first..first + FAMILIES as usize] {
-        sum += *part;
-    }
-    Part(sum)
+    Part(parts.iter().sum())
 }

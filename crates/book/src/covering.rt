@@ -12,11 +12,11 @@ ghost use Rattle.book.specs.Paying.{Paid, Payable, all_turns, turns_of};
 use crate::answers::Refusal;
 use crate::head::head_verdict;
 use crate::kinds::Cover;
-use crate::ledger::{Book, MAKERS, SETS, YEARS, figure_at, lower_figure};
+use crate::ledger::{Book, MAKERS, SETS, figure_at, lower_figure};
 use crate::places::Place;
 use figuring::life::{is_live, is_open};
 use figuring::units::Mg;
-use figuring::years::FIRST_YEAR;
+use figuring::years::{FIRST_YEAR, LAST_YEAR};
 
 // The Mg that a cover moved, and the book after it.
 #[derive(Clone, Copy)]
@@ -57,13 +57,8 @@ fn pay_all(book: &mut Book, c: Cover) -> u64
     ensures { Paid book.old c all_turns book.new result }
 {
     let mut moved = 0;
-    for i in 0..YEARS {
-        let shortage = Place {
-            maker: c.maker,
-            set: c.set,
-            year: FIRST_YEAR + i,
-        };
-        moved += pay_shortage(book, shortage);
+    for year in FIRST_YEAR..=LAST_YEAR {
+        moved += pay_shortage(book, Place::at(c.maker, c.set, year));
     }
     moved
 }
@@ -75,11 +70,10 @@ fn pay_shortage(book: &mut Book, shortage: Place) -> u64
 {
     let mut moved = 0;
     if is_open(book.open_year, shortage.year) {
-        for i in 0..YEARS {
+        for vintage in FIRST_YEAR..=LAST_YEAR {
             let lot = Place {
-                maker: shortage.maker,
-                set: shortage.set,
-                year: FIRST_YEAR + i,
+                cell: shortage.cell,
+                year: vintage,
             };
             moved += pay_turn(book, lot, shortage);
         }
@@ -100,7 +94,8 @@ fn pay_turn(book: &mut Book, lot: Place, shortage: Place) -> u64
     mg
 }
 
-// What a lot pays to a shortage: the smaller of the two where one is live and the other open.
+// What a lot pays to a shortage: the smaller of the two where one is live and the other open. A rule of numbers, which knows
+// no place.
 #[tactic(auto, unfolding(crate::specs::Accounts::only))]
 fn turn_amount(open_year: u64, lot: u64, vintage: u64, shortage: u64, year: u64) -> u64
     ensures { result ≡ min (only (live open_year vintage) lot) (only (open_short open_year year) shortage) }

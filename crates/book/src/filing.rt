@@ -33,23 +33,13 @@ fn filed(book: &mut Book, table: &Table, f: Filing) -> Result<Answer, Refusal>
     ensures { answered result book.new ≡ posted table.now book.old (Call.File f) }
 {
     file_verdict(book, table, f)?;
-    let Some(part) = part_of(table, f) else {
-        return Err(Refusal::OutOfLimits);
-    };
-    let family = Family {
-        maker: f.maker,
-        set: f.set,
-        number: f.family,
-    };
-    let mark = family.marked_in(book.marks[family.cell()]);
-    book.marks[family.cell()] = mark;
-    book.parts[family.index()] = part.0;
-    // The number of ones in the mark.
-    let count = u64::from(mark.count_ones());
-    Ok(Answer::Filed(part, count))
+    let part = part_of(table, f).ok_or(Refusal::OutOfLimits)?;
+    let family = Family::at(f.maker, f.set, f.family);
+    Ok(book.store(family, part))
 }
 
-// A filing's part, from the standard that it names beside the ordinary one; out of limits where document 01 says so.
+// A filing's part, from the standard that it names beside the ordinary one; out of limits where document 01 says so. Where
+// there is no standard 0 stands for it, as in the rule (`grams_of`; docs/DECISIONS.md): 6 or 17 refuses such a filing.
 fn part_of(table: &Table, f: Filing) -> Option<Part>
     ensures { result ≡ family_part
         (grams_of (standard_under (ordinary_for table.now f) f.edition f.set f.vehicle_use f.year))
@@ -89,14 +79,10 @@ fn file_verdict(book: &Book, table: &Table, f: Filing) -> Result<(), Refusal>
     if !within_limits(f.fcl, f.cf, f.volume, f.life) {
         return Err(Refusal::OutOfLimits);
     }
-    let family = Family {
-        maker: f.maker,
-        set: f.set,
-        number: f.family,
-    };
+    let family = Family::at(f.maker, f.set, f.family);
     filed_verdict(
         f.amends,
-        is_marked(book.marks[family.cell()], family.number),
+        is_marked(book.marks[family.cell.index()], family.number),
     )
 }
 

@@ -1,5 +1,7 @@
 // The head of the refusals: what comes before all that a call tests itself, decided in one place for every call. Of the
-// book it asks whether it is sound, of the table beside a filing whether it is accepted.
+// book it asks whether it is sound, of the table beside a filing whether it is accepted. Other rows that several calls have
+// stand in the verdict of each, as in the rules: a verdict is its call's table, read down with a test for each row. The head
+// is handed the tests, and not the book: with the walk of soundness in one function it was compiled to a slower loop.
 ghost use Rattle.std.specs.Prelude.{◌≡◌, [], ◌∷◌};
 ghost use Rattle.book.specs.Refusals.{first_refusal};
 ghost use Rattle.book.specs.Rules.{fit_row, head_rows};

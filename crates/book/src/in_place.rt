@@ -2,10 +2,10 @@
 // proved by-value step and store the result back; `post_in` passes the book on to the call's own. A refusal leaves
 // the book exactly as it was, so of one nothing is stored. Filings alone read the table of standards, so the other
 // calls take none, and their contracts hold for every table.
-// The five stay apart, as document 01 names them: a generic one would be handed a table that four of them do not take.
+// The five are public and a line each; the one for all of them is `post_in`.
 ghost use Rattle.std.specs.Prelude.{◌≡◌};
 ghost use Rattle.figuring.specs.Tables.{Table};
-ghost use Rattle.book.specs.Rules.{posted};
+ghost use Rattle.book.specs.Rules.{answered, posted};
 ghost use Rattle.book.specs.declared.kinds.Call.{Call};
 
 use crate::answers::{Answer, Refusal};
@@ -19,69 +19,48 @@ use crate::trading::trade;
 use figuring::tables::Table;
 
 // A filing, or an amendment where it amends.
+#[tactic(auto, using(crate::proofs::RefusalLaws::stored_so))]
 pub fn file_in(book: &mut Book, table: Table, f: Filing) -> Result<Answer, Refusal>
-    ensures { (result ≡ (posted table book.old (Call.File f)).answer)
-        × (book.new ≡ (posted table book.old (Call.File f)).book) }
+    ensures { answered result book.new ≡ posted table book.old (Call.File f) }
 {
-    let done = file(*book, table, f);
-    if done.answer.is_ok() {
-        *book = done.book;
-    }
-    done.answer
+    file(*book, table, f).store(book)
 }
 
+#[tactic(auto, using(crate::proofs::RefusalLaws::stored_so))]
 pub fn close_in(book: &mut Book, year: u64) -> Result<Answer, Refusal>
     ensures { (table : Table)
-        → (result ≡ (posted table book.old (Call.Close year)).answer)
-        × (book.new ≡ (posted table book.old (Call.Close year)).book) }
+        → answered result book.new ≡ posted table book.old (Call.Close year) }
 {
-    let done = close(*book, year);
-    if done.answer.is_ok() {
-        *book = done.book;
-    }
-    done.answer
+    close(*book, year).store(book)
 }
 
+#[tactic(auto, using(crate::proofs::RefusalLaws::stored_so))]
 pub fn trade_in(book: &mut Book, t: Trade) -> Result<Answer, Refusal>
     ensures { (table : Table)
-        → (result ≡ (posted table book.old (Call.Trade t)).answer)
-        × (book.new ≡ (posted table book.old (Call.Trade t)).book) }
+        → answered result book.new ≡ posted table book.old (Call.Trade t) }
 {
-    let done = trade(*book, t);
-    if done.answer.is_ok() {
-        *book = done.book;
-    }
-    done.answer
+    trade(*book, t).store(book)
 }
 
+#[tactic(auto, using(crate::proofs::RefusalLaws::stored_so))]
 pub fn apply_in(book: &mut Book, p: Application) -> Result<Answer, Refusal>
     ensures { (table : Table)
-        → (result ≡ (posted table book.old (Call.Apply p)).answer)
-        × (book.new ≡ (posted table book.old (Call.Apply p)).book) }
+        → answered result book.new ≡ posted table book.old (Call.Apply p) }
 {
-    let done = apply(*book, p);
-    if done.answer.is_ok() {
-        *book = done.book;
-    }
-    done.answer
+    apply(*book, p).store(book)
 }
 
+#[tactic(auto, using(crate::proofs::RefusalLaws::stored_so))]
 pub fn retire_in(book: &mut Book, p: Retirement) -> Result<Answer, Refusal>
     ensures { (table : Table)
-        → (result ≡ (posted table book.old (Call.Retire p)).answer)
-        × (book.new ≡ (posted table book.old (Call.Retire p)).book) }
+        → answered result book.new ≡ posted table book.old (Call.Retire p) }
 {
-    let done = retire(*book, p);
-    if done.answer.is_ok() {
-        *book = done.book;
-    }
-    done.answer
+    retire(*book, p).store(book)
 }
 
 // Any call, posted in place.
 pub fn post_in(book: &mut Book, table: Table, call: Call) -> Result<Answer, Refusal>
-    ensures { (result ≡ (posted table book.old call).answer)
-        × (book.new ≡ (posted table book.old call).book) }
+    ensures { answered result book.new ≡ posted table book.old call }
 {
     match call {
         Call::File(f) => file_in(book, table, f),

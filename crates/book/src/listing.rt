@@ -1,10 +1,10 @@
-// What a listing shows of a maker, a set and a year, for any three numbers and any book. The array is lent: a listing
-// asks for each of 768 lots and 768 shortages. Lots and shortages have a type and a function each: the paper has other
-// words, and other tests, for the one than for the other, so that one generic function would be handed all that differs.
+// What a listing shows of a maker, a set and a year, for any three numbers and any book. An array is lent, and numbers are
+// handed over, so that a caller need have no book and no place. Lots and shortages have a type and a function each: one
+// type for both would still want two states, and one function both tests and what they give, which is all but its frame.
 ghost use Rattle.std.specs.Prelude.{◌≡◌};
 ghost use Rattle.book.specs.Listing.{is_cell_year, lot_entry, shortage_entry};
 
-use crate::ledger::figure_at;
+use crate::ledger::{PLACES, figure_at};
 use crate::places::Place;
 use figuring::life::{is_expired, is_live, is_open, is_overdue};
 use figuring::units::Mg;
@@ -26,7 +26,7 @@ pub enum ShortageEntry {
 #[tactic(auto, unfolding(crate::specs::Listing::lot_entry, crate::specs::Listing::is_cell_year))]
 pub fn lot_entry(
     open_year: u64,
-    lots: &[u64; 768],
+    lots: &[u64; PLACES],
     maker: u64,
     set: u64,
     vintage: u64,
@@ -48,7 +48,7 @@ pub fn lot_entry(
 #[tactic(auto, unfolding(crate::specs::Listing::shortage_entry, crate::specs::Listing::is_cell_year))]
 pub fn shortage_entry(
     open_year: u64,
-    shortages: &[u64; 768],
+    shortages: &[u64; PLACES],
     maker: u64,
     set: u64,
     year: u64,

@@ -25,11 +25,7 @@ fn retired(book: &mut Book, p: Retirement) -> Result<Answer, Refusal>
     ensures { (table : Table) → answered result book.new ≡ posted table book.old (Call.Retire p) }
 {
     retire_verdict(book, p)?;
-    let lot = Place {
-        maker: p.maker,
-        set: p.set,
-        year: p.vintage,
-    };
+    let lot = Place::at(p.maker, p.set, p.vintage);
     let left = lower_figure(&mut book.lots, lot, p.mg);
     Ok(Answer::Left(Mg(left)))
 }
@@ -51,12 +47,8 @@ fn retire_verdict(book: &Book, p: Retirement) -> Result<(), Refusal>
     if p.mg == 0 {
         return Err(Refusal::ZeroAmount);
     }
-    let lot = Place {
-        maker: p.maker,
-        set: p.set,
-        year: p.vintage,
-    };
-    if has_shortage(&book.shortages, lot) {
+    let lot = Place::at(p.maker, p.set, p.vintage);
+    if has_shortage(&book.shortages, lot.cell) {
         return Err(Refusal::HasShortage);
     }
     if p.mg > figure_at(&book.lots, lot) {

@@ -3,10 +3,11 @@ ghost use Rattle.std.specs.Prelude.{◌≡◌};
 ghost use Rattle.book.specs.Soundness.{sound, cells_sound, totals_sound, part_sound, figures_sound, year_in_range};
 ghost use Rattle.book.specs.declared.ledger.Book.{Book};
 
-use crate::ledger::{ALL_CLOSED, Book, FAMILIES, MAKERS, SETS, YEARS, is_marked};
+use crate::ledger::{ALL_CLOSED, Book, FAMILIES, MAKERS, PLACES, SETS, figure_at, is_marked};
+use crate::places::{Cell, Family, Place};
 use figuring::netting::NET_MOST;
 use figuring::parts::PART_MOST;
-use figuring::years::FIRST_YEAR;
+use figuring::years::{FIRST_YEAR, LAST_YEAR};
 
 // "every shortage at most 2.5 × 10^10": a bound of what a cell's parts come to.
 const SHORTAGE_MOST: u64 = NET_MOST;
@@ -26,7 +27,7 @@ impl Book {
 fn year_in_range(open_year: u64) -> bool
     ensures { result ≡ year_in_range open_year }
 {
-    FIRST_YEAR <= open_year && open_year <= ALL_CLOSED
+    (FIRST_YEAR..=ALL_CLOSED).contains(&open_year)
 }
 
 // The walk over makers, sets and years, in document 01's form: nested loops that end by their label at the first fault.
@@ -37,19 +38,21 @@ fn cells_sound(book: &Book) -> bool
     let mut good = true;
     'walk: for maker in 0..MAKERS {
         for set in 0..SETS {
-            let cell = maker * SETS + set;
-            let mark = book.marks[cell as usize];
-            for family in 0..FAMILIES {
-                let part = book.parts[(cell * FAMILIES + family) as usize];
-                if !part_sound(mark, family, part) {
+            let cell = Cell { maker, set };
+            let mark = book.marks[cell.index()];
+            for number in 0..FAMILIES {
+                let family = Family { cell, number };
+                let part = book.parts[family.index()];
+                if !part_sound(mark, number, part) {
                     good = false;
                     break 'walk;
                 }
             }
-            for i in 0..YEARS {
-                let lot = book.lots[(cell * YEARS + i) as usize];
-                let shortage = book.shortages[(cell * YEARS + i) as usize];
-                if !figures_sound(book.open_year, FIRST_YEAR + i, lot, shortage) {
+            for year in FIRST_YEAR..=LAST_YEAR {
+                let place = Place { cell, year };
+                let lot = figure_at(&book.lots, place);
+                let shortage = figure_at(&book.shortages, place);
+                if !figures_sound(book.open_year, year, lot, shortage) {
                     good = false;
                     break 'walk;
                 }
@@ -64,7 +67,7 @@ fn cells_sound(book: &Book) -> bool
 fn part_sound(mark: u64, family: u64, part: i64) -> bool
     ensures { result ≡ part_sound mark family part }
 {
-    part == 0 || part.unsigned_abs() <= PART_MOST.unsigned_abs() && is_marked(mark, family)
+    part == 0 || ((-PART_MOST..=PART_MOST).contains(&part) && is_marked(mark, family))
 }
 
 // A cell's lot and shortage of a year.
@@ -77,15 +80,15 @@ fn figures_sound(open_year: u64, year: u64, lot: u64, shortage: u64) -> bool
 
 // The same form, over sets, years and makers.
 #[tactic(auto, unfolding(figuring::specs::Below::all_below, crate::specs::Below::sum_below))]
-fn totals_sound(lots: &[u64; 768]) -> bool
+fn totals_sound(lots: &[u64; PLACES]) -> bool
     ensures { result ≡ totals_sound lots.now }
 {
     let mut good = true;
     'walk: for set in 0..SETS {
-        for i in 0..YEARS {
+        for year in FIRST_YEAR..=LAST_YEAR {
             let mut sum = 0;
             for maker in 0..MAKERS {
-                let lot = lots[((maker * SETS + set) * YEARS + i) as usize];
+                let lot = figure_at(lots, Place::at(maker, set, year));
                 if lot > LOTS_MOST - sum {
                     good = false;
                     break 'walk;

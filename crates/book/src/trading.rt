@@ -25,16 +25,8 @@ fn traded(book: &mut Book, t: Trade) -> Result<Answer, Refusal>
     ensures { (table : Table) → answered result book.new ≡ posted table book.old (Call.Trade t) }
 {
     trade_verdict(book, t)?;
-    let seller = Place {
-        maker: t.from,
-        set: t.set,
-        year: t.vintage,
-    };
-    let buyer = Place {
-        maker: t.to,
-        set: t.set,
-        year: t.vintage,
-    };
+    let seller = Place::at(t.from, t.set, t.vintage);
+    let buyer = Place::at(t.to, t.set, t.vintage);
     let left = lower_figure(&mut book.lots, seller, t.mg);
     raise_figure(&mut book.lots, buyer, t.mg);
     Ok(Answer::Left(Mg(left)))
@@ -63,12 +55,8 @@ fn trade_verdict(book: &Book, t: Trade) -> Result<(), Refusal>
     if t.from == t.to {
         return Err(Refusal::SameMaker);
     }
-    let seller = Place {
-        maker: t.from,
-        set: t.set,
-        year: t.vintage,
-    };
-    if has_shortage(&book.shortages, seller) {
+    let seller = Place::at(t.from, t.set, t.vintage);
+    if has_shortage(&book.shortages, seller.cell) {
         return Err(Refusal::HasShortage);
     }
     if t.mg > figure_at(&book.lots, seller) {

@@ -15,7 +15,7 @@ use streams::reading::read_full;
 use text::reading::TEXT_ROOM;
 use texts::text_turn;
 
-// Reads one record and writes its answer; nothing at the input's end, at a kind that is not known or too many bytes, or if
+// Reads one record and writes its answer; nothing, which ends the run (an Option, as its reads and writes are made by `ok`) and was told if it is a fault, at the input's end, at a kind that is not known or too many bytes, or if
 // a write fails.
 fn turn(rt: HostRuntime, input: &mut Record, bytes: &mut [u8; TEXT_ROOM]) -> Option<()> {
     let input_bytes = input.as_flattened_mut();

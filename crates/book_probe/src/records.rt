@@ -5,6 +5,7 @@ ghost use Rattle.std.specs.Prelude.{◌<◌, ◌≤◌, length};
 use crate::words::{Word, numbers, put_words};
 use book::answers::{Answer, Refusal};
 use book::kinds::{Application, Call, Filing, Retirement, Trade};
+use book::ledger;
 use book::ledger::Book;
 use book::posting::post;
 use figuring::grid::{COLUMNS, YEARS};
@@ -14,13 +15,13 @@ use std::array;
 // Where the book's arrays begin, in words, after its open year, and where it ends.
 const MARKS: usize = 1;
 
-const PARTS: usize = MARKS + 32;
+const PARTS: usize = MARKS + ledger::CELLS;
 
-const LOTS: usize = PARTS + 2048;
+const LOTS: usize = PARTS + ledger::PARTS;
 
-const SHORTAGES: usize = LOTS + 768;
+const SHORTAGES: usize = LOTS + ledger::PLACES;
 
-const BOOK: usize = SHORTAGES + 768;
+const BOOK: usize = SHORTAGES + ledger::PLACES;
 
 // A call's kind, after the book; then its ten arguments, in document 01's order. The kind is a number, and a refusal's is
 // 0 where there is none: so the second implementation writes and reads them.
@@ -97,62 +98,16 @@ pub(crate) fn asked_of(input: &Record) -> Option<Asked> {
     let arguments: [u64; 10] = numbers(input, ARGUMENTS, u64::from_le_bytes);
     let [a, b, c, d, e, ..] = arguments;
     let call = match kind {
-        0 => Call::File(filing_of(arguments, false)),
+        0 => Call::File(Filing::of(false, arguments)),
         1 => Call::Close(a),
-        2 => Call::Trade(Trade {
-            from: a,
-            to: b,
-            set: c,
-            vintage: d,
-            mg: e,
-        }),
-        3 => Call::Apply(Application {
-            maker: a,
-            set: b,
-            vintage: c,
-            year: d,
-            mg: e,
-        }),
-        4 => Call::Retire(Retirement {
-            maker: a,
-            set: b,
-            vintage: c,
-            mg: d,
-        }),
-        5 => Call::File(filing_of(arguments, true)),
+        2 => Call::Trade(Trade::from([a, b, c, d, e])),
+        3 => Call::Apply(Application::from([a, b, c, d, e])),
+        4 => Call::Retire(Retirement::from([a, b, c, d])),
+        5 => Call::File(Filing::of(true, arguments)),
         6 => return Some(Asked::Text(a)),
         _ => return None,
     };
     Some(Asked::Post(call))
-}
-
-// A filing or an amendment.
-fn filing_of(arguments: [u64; 10], amends: bool) -> Filing {
-    let [
-        maker,
-        set,
-        year,
-        vehicle_use,
-        edition,
-        family,
-        fcl,
-        cf,
-        volume,
-        life,
-    ] = arguments;
-    Filing {
-        amends,
-        maker,
-        set,
-        year,
-        vehicle_use,
-        edition,
-        family,
-        fcl,
-        cf,
-        volume,
-        life,
-    }
 }
 
 // An answer in numbers: the refusal's and no values, or 0 and the values.

@@ -2,8 +2,6 @@
 use Rattle.std.proofs.Common.{◌≡◌, ℕ, ◌+◌, ◌-◌, ◌≤◌, List, [], ◌∷◌, ◌++◌, length, length-append, length-drop, length-take-le, take, drop, true, Result, append_assoc, refl, sym, ap, ◌∙◌, arith, inl, inr}
 use mathlib.Core.List.{append-nil}
 use lib.Seq.{take-add}
-use Rattle.book.specs.declared.answers.Refusal.{Refusal}
-use Rattle.text.specs.Loads.{Read, accepted, refused, loading_of, kept}
 use Rattle.text.specs.Program.{joined}
 use Rattle.credit_book.specs.declared.progress.Lapse.{Lapse}
 use Rattle.credit_book.specs.declared.progress.Progress.{Progress}
@@ -92,12 +90,3 @@ comes_to {f = f} first_bytes_lem long h k =
       verdict = verdict;
       any_text = λ s p. sym (first_bytes_lem s) ∙ ap f p ∙ verdict;
     }
-
--- ---- what the loading of a text says of it
-pub was_loaded : {A : Type 0} (v : Read A) (a : A) {a' : A} → accepted tt ≡ loading_of v → a' ≡ kept v a → v ≡ accepted a'
-was_loaded (accepted b) a e k = ap accepted (sym k)
-was_loaded (refused r) a e k = cc
-
-pub was_refused : {A : Type 0} (v : Read A) {r : Refusal} → refused r ≡ loading_of v → v ≡ refused r
-was_refused (accepted b) e = cc
-was_refused (refused r) e = cc

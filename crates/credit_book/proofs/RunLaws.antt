@@ -10,8 +10,8 @@ use Rattle.text.specs.Listing.{listing}
 use Rattle.text.specs.Program.{opened, written, joined, terminal, in_chunks}
 use Rattle.text.proofs.SessionLaws.{any_chunks}
 use Rattle.credit_book.specs.declared.progress.Progress.{Progress}
-use Rattle.credit_book.specs.declared.Input.{Input}
-use Rattle.credit_book.specs.declared.Closed.{Closed}
+use Rattle.credit_book.specs.declared.console.Input.{Input}
+use Rattle.credit_book.specs.declared.console.Closed.{Closed}
 use Rattle.credit_book.specs.Turns.{ClosedBy, RanBy, ReadBy, Reading, said_to}
 
 -- the terminal that took the chunks, each said and handed over

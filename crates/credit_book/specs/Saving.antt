@@ -3,8 +3,8 @@ use Rattle.std.specs.Prelude.{ℕ, Bool, true, false, cond, ◌≡◌, List, [],
 use Rattle.book.specs.Soundness.{sound}
 use Rattle.book.specs.declared.ledger.Book.{Book}
 use Rattle.text.specs.BookText.{book_text}
-use Rattle.credit_book.specs.declared.Wrote.{Wrote}
-use Rattle.credit_book.specs.declared.Closed.{Closed}
+use Rattle.credit_book.specs.declared.console.Wrote.{Wrote}
+use Rattle.credit_book.specs.declared.console.Closed.{Closed}
 
 -- what a file is to have: the book's text. An unsound book has none to write out, and no run comes to one (`Demands` of
 -- shown)

@@ -1,6 +1,7 @@
 -- What the program's functions hold to. No contract can say what a call of the system read or wrote; these say it of
 -- values: what a read answered, how many bytes standard output was handed, and what stood in the buffer they came from.
--- t is the table of standards, one for the whole run, b the book that it begins with, and x a terminal.
+-- t is the table of standards, one for the whole run, b the book that it begins with, x a terminal, and p and q are the
+-- console before and after.
 use Rattle.std.specs.Prelude.{ℕ, zero, suc, ◌≤◌, Bool, true, false, ◌≡◌, ◌≢◌, List, [], ◌∷◌, ◌++◌, length, take, None, Result, Ok, Err, IsSomeAnd}
 use Rattle.std.specs.Result.{result_unwrap_or}
 use Rattle.std.specs.IoError.{error_kind}
@@ -8,18 +9,18 @@ use Rattle.std.specs.declared.io.Error.{Error}
 use Rattle.std.specs.declared.io.ErrorKind.{ErrorKind}
 use Rattle.figuring.specs.Tables.{Table}
 use Rattle.book.specs.declared.ledger.Book.{Book}
-use Rattle.text.specs.declared.desk.Desk.{Desk}
 use Rattle.text.specs.Desk.{Terminal, at_desk, takes_all, ends}
 use Rattle.text.specs.Listing.{listing}
 use Rattle.text.specs.Placing.{Stands}
 use Rattle.text.specs.Program.{opened, written, joined, terminal}
 use Rattle.credit_book.specs.declared.progress.Lapse.{Lapse}
 use Rattle.credit_book.specs.declared.progress.Progress.{Progress}
-use Rattle.credit_book.specs.declared.Wrote.{Wrote}
-use Rattle.credit_book.specs.declared.Turn.{Turn}
-use Rattle.credit_book.specs.declared.Input.{Input}
-use Rattle.credit_book.specs.declared.Closed.{Closed}
-use Rattle.credit_book.specs.declared.Ran.{Ran}
+use Rattle.credit_book.specs.declared.console.Console.{Console}
+use Rattle.credit_book.specs.declared.console.Wrote.{Wrote}
+use Rattle.credit_book.specs.declared.console.Turn.{Turn}
+use Rattle.credit_book.specs.declared.console.Input.{Input}
+use Rattle.credit_book.specs.declared.console.Closed.{Closed}
+use Rattle.credit_book.specs.declared.console.Ran.{Ran}
 
 -- the most bytes of a read, and room for the answers to them
 abbrev pub chunk_room : ℕ
@@ -32,10 +33,11 @@ out_room = 262144
 abbrev pub most_turns : ℕ
 most_turns = 18446744073709551615
 
--- a desk after what the terminal x said was written: it stands at the buffer's start, and all of it was handed over
-pub record Delivered (x : Terminal) (out : List ℕ) (d : Desk) (wrote : Wrote) (out' : List ℕ) : Type 0 where
-  pub desk_is : at_desk d ≡ written x
-  pub stands : Stands x.said 0 out wrote.handed out'
+-- a console after what the terminal x said was written: it stands at the buffer's start, and all of it was handed over
+pub record Delivered (x : Terminal) (p : Console) (wrote : Wrote) (q : Console) : Type 0 where
+  pub desk_is : at_desk q.desk ≡ written x
+  pub table_is : q.table ≡ p.table
+  pub stands : Stands x.said 0 p.out.now wrote.handed q.out.now
 
 -- why a read gave no bytes, by its error's kind: an interrupted one is no failure
 abbrev pub LapseBy : Error → Lapse → Type 0
@@ -57,11 +59,11 @@ progress (Err Lapse.Failed) true = Progress.Failed
 
 -- a turn: there is a buffer, in the code the one that the read was lent, whose first bytes the desk took, as many as the
 -- read gave; all that it said is written
-pub record Turned (t : Table) (d : Desk) (out : List ℕ) (r : Turn) (d' : Desk) (out' : List ℕ) : Type 0 where
+pub record Turned (p : Console) (r : Turn) (q : Console) : Type 0 where
   pub buffer : List ℕ
   pub long : length buffer ≡ chunk_room
   pub within : count r.read ≤ chunk_room
-  pub delivered : Delivered (takes_all t (at_desk d) (take (count r.read) buffer)) out d' r.wrote out'
+  pub delivered : Delivered (takes_all p.table (at_desk p.desk) (take (count r.read) buffer)) p r.wrote q
 
 -- the chunks that were read, the terminal that took them, and how far the reading has come: in each turn all that the
 -- terminal said was handed over, and each turn but the last left more to read

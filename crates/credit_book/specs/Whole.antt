@@ -4,7 +4,7 @@ use Rattle.book.specs.declared.answers.Refusal.{Refusal}
 use Rattle.text.specs.Answers.{text_of}
 use Rattle.text.specs.Placing.{Stands}
 use Rattle.credit_book.specs.declared.Outcome.{Outcome}
-use Rattle.credit_book.specs.declared.Wrote.{Wrote}
+use Rattle.credit_book.specs.declared.console.Wrote.{Wrote}
 use Rattle.credit_book.specs.Turns.{RanBy}
 use Rattle.credit_book.specs.Start.{PreparedBy, refusal_of, table_or_built_in}
 use Rattle.credit_book.specs.Saving.{SavedBy}

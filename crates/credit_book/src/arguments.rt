@@ -1,5 +1,5 @@
 // The program's arguments: `--read FILE` and `--write FILE`, each at most once, in either order.
-ghost use Rattle.std.specs.Prelude.{◌≤◌};
+ghost use Rattle.std.specs.Prelude.{◌≤◌, ◌+◌};
 
 use std::env::{Env, FillError};
 use std::fs::File;
@@ -43,7 +43,7 @@ fn is_argument(rt: HostRuntime, i: usize) -> bool {
 
 // How many arguments there are, with the program's own name; one more than are known stands for any more.
 fn arg_count(rt: HostRuntime) -> usize
-    ensures { result ≤ 6 }
+    ensures { result ≤ MOST + 1 }
 {
     (0..=MOST).take_while(|i| is_argument(rt, *i)).count()
 }
@@ -80,10 +80,18 @@ pub fn named_files(rt: HostRuntime) -> Option<Asked> {
     }
 }
 
+// The path that an argument names.
+pub(crate) fn named_path<'a>(
+    rt: HostRuntime,
+    name: usize,
+    buffer: &'a mut [u8; PATH_ROOM],
+) -> io::Result<&'a str> {
+    let answer = rt.arg(name, buffer);
+    path_of(answer, buffer)
+}
+
 // Opens the file that an argument names, for reading.
 pub fn open_named(rt: HostRuntime, name: usize) -> io::Result<File> {
     let mut buffer = [0u8; PATH_ROOM];
-    let answer = rt.arg(name, &mut buffer);
-    let path = path_of(answer, &buffer)?;
-    fs::open(&rt, path)
+    fs::open(&rt, named_path(rt, name, &mut buffer)?)
 }

@@ -13,14 +13,13 @@ use text::reading::{TEXT_ROOM, read_book};
 // What is told that failed.
 const WHAT: &str = "credit-book: --read";
 
-// The book of a file that was opened.
+// The book of a file that was opened; as to its twin see `load_file`.
 fn load_book(rt: HostRuntime, file: File) -> Result<Book, Unusable>
     ensures { FromBookFile result }
 {
     let mut text = [0u8; TEXT_ROOM];
     let n = read_text(rt, file, WHAT, &mut text)?;
-    let book = read_book(&text[..n])?;
-    Ok(book)
+    Ok(read_book(&text[..n])?)
 }
 
 // The name is the place of the file's name among the arguments.
@@ -30,8 +29,6 @@ pub fn first_book(rt: HostRuntime, name: Option<usize>) -> Result<Book, Unusable
     let Some(name) = name else {
         return Ok(Book::fresh());
     };
-    match told(rt, WHAT, open_named(rt, name)) {
-        Some(file) => load_book(rt, file),
-        None => Err(Unusable::Unreadable),
-    }
+    let file = told(rt, WHAT, open_named(rt, name)).ok_or(Unusable::Unreadable)?;
+    load_book(rt, file)
 }

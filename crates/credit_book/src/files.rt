@@ -26,7 +26,8 @@ impl From<Refusal> for Unusable {
     }
 }
 
-// Reads once, into what is left of the buffer. A read that failed is told of `what`.
+// Reads once, into what is left of the buffer; it is lent whole, since what was read before stands too. A read that failed
+// is told of `what`.
 fn add_some(
     rt: HostRuntime,
     file: &mut File,
@@ -37,7 +38,7 @@ fn add_some(
     requires { at ≤ length text.old }
     ensures { AddedBy at text.old result text.new }
 {
-    read_once(rt, file, &mut text[at..], what).map_err(Lapse::from)
+    Ok(read_once(rt, file, &mut text[at..], what)?)
 }
 
 // With so many bytes in a buffer: a full one is an end too.
@@ -50,8 +51,8 @@ fn unless_full(progress: Progress, len: usize, room: usize) -> Progress
     }
 }
 
-// Reads a file to its end, or until the buffer is full, and closes it: how many bytes that gave. If not, that is told: a
-// read that failed told it, and used-up turns are told here. As to the turns, see `read_all`.
+// Reads a file to its end, or until the buffer is full, and closes it: how many bytes that gave, a count as std's `read`
+// gives. If not, that is told: a read that failed told it, and used-up turns are told here. As to the turns, see `read_all`.
 #[tactic(auto, using(crate::proofs::FileLaws::none_yet, crate::proofs::FileLaws::next, crate::proofs::FileLaws::whole, crate::proofs::FileLaws::failed, crate::proofs::FileLaws::used_up))]
 pub fn read_text(
     rt: HostRuntime,

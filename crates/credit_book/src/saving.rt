@@ -1,19 +1,16 @@
 // Card 8: the book of a run written out at its end, in the place of the file named after `--write`. It goes to a new file
 // beside it, which is synced and then renamed over the file: so a failure at any moment leaves the old file whole. What
 // failed is told.
-ghost use Rattle.std.specs.Prelude.{◌≤◌, length};
-ghost use Rattle.credit_book.specs.Turns.{out_room};
 ghost use Rattle.credit_book.specs.Saving.{SavedBy, SavesBook};
 
-use crate::{Closed, OUT_ROOM, Wrote};
+use crate::arguments::named_path;
+use crate::console::{Closed, OUT_ROOM, Wrote};
 use book::ledger::Book;
-use std::env::Env;
 use std::fs::{File, OpenOptions};
 use std::io::{ErrorKind, Write};
 use std::os::unix::fs::OpenOptionsExt;
 use std::{fs, io};
-use streams::arguments::{PATH_ROOM, path_of};
-use streams::telling::told;
+use streams::arguments::PATH_ROOM;
 use text::writing::write_book;
 
 // The new file's name is the file's with a dot after it, and a number of six digits that no other file has.
@@ -61,8 +58,7 @@ fn replace(rt: HostRuntime, name: &str, text: &[u8]) -> io::Result<()> {
 // Puts a text in the place of the file that an argument names.
 fn save_named(rt: HostRuntime, name: usize, text: &[u8]) -> io::Result<()> {
     let mut buffer = [0u8; PATH_ROOM];
-    let answer = rt.arg(name, &mut buffer);
-    let path = path_of(answer, &buffer)?;
+    let path = named_path(rt, name, &mut buffer)?;
     if path.len() > PATH_ROOM - ENDING {
         return Err(io::Error::new(ErrorKind::InvalidFilename, "the name is too long"));
     }
@@ -70,20 +66,12 @@ fn save_named(rt: HostRuntime, name: usize, text: &[u8]) -> io::Result<()> {
 }
 
 // Hands the text of a book to the file that an argument names. If that does not go well, that is told.
-fn save_book(rt: HostRuntime, name: usize, book: &Book, out: &mut [u8]) -> Option<Wrote>
-    requires { out_room ≤ length out.old }
+fn save_book(rt: HostRuntime, name: usize, book: &Book, out: &mut [u8; OUT_ROOM]) -> Option<Wrote>
     ensures { SavesBook book.now result out.new }
 {
-    match write_book(out, book) {
-        Ok(n) => {
-            let done = told(rt, WHAT, save_named(rt, name, &out[..n]));
-            Some(Wrote {
-                handed: n,
-                fine: done.is_some(),
-            })
-        }
-        Err(_) => None,
-    }
+    let handed = write_book(out, book).ok()?;
+    let done = save_named(rt, name, &out[..handed]);
+    Some(Wrote::told(rt, WHAT, handed, done))
 }
 
 // The book after a run, unless no file is named or something failed before.

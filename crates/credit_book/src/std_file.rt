@@ -4,27 +4,24 @@
 ghost use Rattle.credit_book.specs.StdFile.{FromFile, Opened, StdFileBy};
 
 use crate::files::{Unusable, read_text};
-use figuring::grid::printed_grid;
 use figuring::tables::Table;
 use std::fs::File;
 use std::io::ErrorKind;
 use std::{fs, io};
 use streams::telling::tell;
-use text::tables::{TABLE_ROOM, load_table};
+use text::tables::{TABLE_ROOM, read_table};
 
 // What is told that failed.
 const WHAT: &str = "credit-book: std.txt";
 
-// The table of a file that was opened. It and the book's stay two: a generic one would be handed the room, the reader and
-// what is told, and be no shorter than either.
+// The table of a file that was opened. It and the book's stay two, of three lines each: a generic one was proved, and took
+// two `requires`, two definitions and a law more, since its contract speaks of the reader's calls.
 fn load_file(rt: HostRuntime, file: File) -> Result<Table, Unusable>
     ensures { FromFile result }
 {
     let mut text = [0u8; TABLE_ROOM];
     let n = read_text(rt, file, WHAT, &mut text)?;
-    let mut table = printed_grid();
-    load_table(&text[..n], &mut table)?;
-    Ok(table)
+    Ok(read_table(&text[..n])?)
 }
 
 // By what the opening answered: the file, or why it was not opened.

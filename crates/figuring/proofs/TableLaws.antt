@@ -2,25 +2,26 @@
 use Prim.Native.Nat.{ℕ, zero, suc, ◌+◌, ◌<◌, ◌≤◌}
 use mathlib.Core.Bool.{Bool, true, false, cond, ◌&&◌, ◌||◌, and-false, or-true, true≢false}
 use mathlib.Core.Logic.{⊎_elim, ◌⊎◌, inl, inr}
-use mathlib.Core.List.{List, []}
+use mathlib.Core.List.{[]}
 use mathlib.Core.Path.{◌≡◌, refl, sym, ◌∙◌, ap}
 use native.Mathlib.Omega.{arith}
 use native.Mathlib.Numerals.{add-one}
 use native.Mathlib.Decide.{dec_lt}
 use borrow.Author.Tests.{le-leb, lt-leb, lt-ltb, le-ltb, leb-true, eqb-true, eq-eqb, ne_eqb}
 use lib.Dec.{leb, ltb, eqb}
-use lib.ListN.{get_or, get_or-replicate}
+use lib.ListN.{get_or, get_or-replicate, length}
+use Rattle.std.specs.List.{IsAllAdjacentAnswer}
 use Rattle.figuring.specs.Years.{first_year, last_year}
 use Rattle.figuring.specs.Below.{all_below}
 use Rattle.figuring.specs.Parts.{between, standard_least, standard_most}
 use Rattle.figuring.specs.Standards.{standard_for, vocational, tractor, spark, printed_for, is_absent}
 use Rattle.figuring.specs.Grid.{grid_years, grid_columns, grid_row, grid_from, printed_grid, row_of, column_of}
-use Rattle.figuring.specs.Tables.{Table, built_in, entry, standard_of, ordinary_in}
+use Rattle.figuring.specs.Tables.{Table, built_in, entry, no_row, standard_of, ordinary_in}
 use Rattle.figuring.specs.Tables.{is_standard, entry_fits, fits_at, row_fits, row_before, row_good, accepted_table}
 use Rattle.figuring.specs.Tables.{Allowed, Falls, zero_none, CardTables}
 use Rattle.std.proofs.Common.{Some, None}
 use Rattle.figuring.proofs.BoolLaws.{both, and_intro}
-use Rattle.figuring.proofs.BelowLaws.{all_at, all_of}
+use Rattle.figuring.proofs.BelowLaws.{all_at, all_of, all_fails}
 use Rattle.figuring.proofs.PartLaws.{part_bound}
 use Rattle.figuring.proofs.StandardLaws.{in_range, in_either, is_standard_lem, range_is, none_before}
 use Rattle.figuring.proofs.GridLaws.{no_column, standard_read}
@@ -94,15 +95,30 @@ ordinary_in_range t s u y =
     (entry_in_range (entry t (row_of y) (column_of s u))) refl
 
 -- ---- rows, as they are held against the one before
-pub row_good_is :
-    (t : Table) (i : ℕ) {before : List ℕ} {r : Bool} → before ≡ row_before t i → row_fits before (get_or t i []) ≡ r
-    → row_good t i ≡ r
-unfolding row_good
-row_good_is t i p q = sym (ap (λ (b : List ℕ). row_fits b (get_or t i [])) p) ∙ q
+good_first : (t : Table) → row_good t 0 ≡ row_fits no_row (get_or t 0 [])
+unfolding row_good row_before
+good_first t = refl
 
-pub next_before : (t : Table) (i : ℕ) → get_or t i [] ≡ row_before t (i + 1)
-unfolding row_before
-next_before t i = rw add-one
+good_next : (t : Table) (i : ℕ) → row_good t (i + 1) ≡ row_fits (get_or t i []) (get_or t (i + 1) [])
+unfolding row_good row_before
+good_next t i = rw add-one
+
+-- by the first row, and by each row and the next, as `is_sorted_by` says it
+pub first_unfit : (t : Table) → row_fits no_row (get_or t 0 []) ≡ false → false ≡ accepted_table t
+unfolding accepted_table
+first_unfit t e = sym (all_fails (row_good t) grid_years 0 (omega arith) (good_first t ∙ e))
+
+pub fit_in_turn :
+    (t : Table) {r : Bool} → length t ≡ grid_years → row_fits no_row (get_or t 0 []) ≡ true
+    → IsAllAdjacentAnswer (λ x y b. b ≡ row_fits x y) t r → r ≡ accepted_table t
+unfolding accepted_table
+fit_in_turn t {r = true} z f h = sym (all_of (row_good t) grid_years each)
+  where
+    each : (i : ℕ) → i < grid_years → row_good t i ≡ true
+    each zero l = good_first t ∙ f
+    each (suc i) l = rw add-one at (good_next t i ∙ sym (h i [] (omega arith)))
+fit_in_turn t {r = false} z f h =
+    sym (all_fails (row_good t) grid_years (h.0 + 1) (omega arith) (good_next t h.0 ∙ sym (h.2 [])))
 
 -- ---- the test of an entry in the card's words, either way
 one_of : {A B : Type 0} (a b : Bool) → (a ≡ true → A) → (b ≡ true → B) → (a || b) ≡ true → A ⊎ B

@@ -27,7 +27,8 @@ pub fn standard_under(
     alternative_for(edition, set, vehicle_use, year)
 }
 
-// Whether refusal 17 concerns an edition in a set and a year.
+// Whether refusal 17 concerns an edition in a set and a year. An edition stays the number that a filing hands over, which
+// may be any: an enum of three would have to be read off it first.
 #[tactic(auto, unfolding(crate::specs::Editions::no_edition))]
 pub fn no_edition(edition: u64, set: u64, year: u64) -> bool
     ensures { result ≡ no_edition edition set year }

@@ -1,5 +1,5 @@
 // Card 2: the standards as the service desk reads them, off a grid.
-ghost use Rattle.std.specs.Prelude.{◌≡◌, ◌≤◌, ◌<◌};
+ghost use Rattle.std.specs.Prelude.{◌≡◌, ◌≤◌, ◌<◌, MatchOption};
 ghost use Rattle.figuring.specs.Grid.{grid_years, printed_grid, row_of, column_of, in_grid};
 ghost use Rattle.figuring.specs.Years.{first_year};
 
@@ -48,12 +48,12 @@ pub fn printed_grid() -> Table
     STANDARDS
 }
 
-// The row of a year; every later year is read in the last.
-pub(crate) fn row_of(year: u64) -> usize
-    requires { first_year ≤ year }
-    ensures { (result ≡ row_of year) × (result < grid_years) }
+// The row of a year, from the first on; every later year is read in the last.
+pub(crate) fn row_of(year: u64) -> Option<usize>
+    ensures { MatchOption result (year < first_year) (λ r. (first_year ≤ year) × (r ≡ row_of year) × (r < grid_years)) }
 {
-    (year.min(LAST_YEAR) - FIRST_YEAR) as usize
+    let row = year.min(LAST_YEAR).checked_sub(FIRST_YEAR)?;
+    Some(row as usize)
 }
 
 // The column of a set and a use, where there is one.

@@ -12,6 +12,8 @@ const LOT_LIFE: u64 = 6;
 // How many years after its own a shortage is open.
 const SHORTAGE_LIFE: u64 = 4;
 
+// Live and expired, open and overdue are document 01's four words, each asked for by its name. All that two of them share
+// is `age`: one function that is handed the years of a life would be the same line once more.
 pub fn is_live(open_year: u64, vintage: u64) -> bool
     ensures { result ≡ live open_year vintage }
 {

@@ -13,18 +13,11 @@ pub const STANDARD_LEAST: u64 = 432;
 pub const STANDARD_MOST: u64 = 769;
 
 // Whether any table is within the limits and does not rise: each row is held against the one before, and
-// the first against none, which no chain says in fewer words.
+// the first against none.
 pub fn table_accepted(table: Table) -> bool
     ensures { result ≡ accepted_table table }
 {
-    let mut before = [0; COLUMNS];
-    for row in table {
-        if !row_fits(before, row) {
-            return false;
-        }
-        before = row;
-    }
-    true
+    row_fits([0; COLUMNS], table[0]) && table.is_sorted_by(|before, row| row_fits(*before, *row))
 }
 
 // Whether a row may follow the row of the year before.

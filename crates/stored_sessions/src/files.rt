@@ -9,7 +9,7 @@ use std::fs::File;
 use std::io::ErrorKind;
 use streams::reading::read_full;
 use text::reading::{TEXT_ROOM, read_book};
-use text::tables::{TABLE_ROOM, load_table};
+use text::tables::{TABLE_ROOM, read_table};
 
 // Opens the file whose name is a name with an ending behind it; nothing where there is none.
 fn open_beside(rt: HostRuntime, name: &str, ending: &str) -> Option<File> {
@@ -17,33 +17,38 @@ fn open_beside(rt: HostRuntime, name: &str, ending: &str) -> Option<File> {
         say(rt, b" unreadable");
         return None;
     };
-    match fs::open(&rt, path.as_str()) {
-        Ok(file) => Some(file),
-        Err(why) => {
+    fs::open(&rt, path.as_str())
+        .inspect_err(|why| {
             if why.kind() != ErrorKind::NotFound {
                 say(rt, b" unreadable");
             }
-            None
-        }
-    }
+        })
+        .ok()
 }
 
-pub(crate) fn load_std(rt: HostRuntime, name: &str, table: &mut Table) -> Result<(), Refusal> {
-    let Some(mut file) = open_beside(rt, name, ".std") else {
-        return Ok(());
-    };
-    let mut text = [0u8; TABLE_ROOM];
-    let got = read_full(&mut file, &mut text);
-    load_table(&text[..got], table)
-}
-
-// The book to begin with, where there is a NAME.book. One byte more than the longest text of a book is read: that decides
-// of any longer one.
-pub(crate) fn stored_book(rt: HostRuntime, name: &str) -> Result<Option<Book>, Refusal> {
-    let Some(mut file) = open_beside(rt, name, ".book") else {
+// What a reader makes of the text of the file with this ending, where there is one: of as much of it as the buffer holds,
+// which is enough to decide of any longer one.
+fn read_beside<T, F: Fn(&[u8]) -> Result<T, Refusal>>(
+    rt: HostRuntime,
+    name: &str,
+    ending: &str,
+    text: &mut [u8],
+    reader: F,
+) -> Result<Option<T>, Refusal>
+    requires { F.IsAlwaysCallable reader }
+{
+    let Some(mut file) = open_beside(rt, name, ending) else {
         return Ok(None);
     };
-    let mut text = [0u8; TEXT_ROOM];
-    let got = read_full(&mut file, &mut text);
-    read_book(&text[..got]).map(Some)
+    let n = read_full(&mut file, text);
+    reader(&text[..n]).map(Some)
+}
+
+pub(crate) fn stored_table(rt: HostRuntime, name: &str) -> Result<Option<Table>, Refusal> {
+    read_beside(rt, name, ".std", &mut [0u8; TABLE_ROOM], read_table)
+}
+
+// The book to begin with.
+pub(crate) fn stored_book(rt: HostRuntime, name: &str) -> Result<Option<Book>, Refusal> {
+    read_beside(rt, name, ".book", &mut [0u8; TEXT_ROOM], read_book)
 }

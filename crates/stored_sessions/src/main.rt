@@ -9,14 +9,13 @@ mod files;
 mod sessions;
 
 use book::answers::Refusal;
-use book::ledger::Book;
 use figuring::grid::printed_grid;
-use figuring::tables::Table;
-use files::{load_std, stored_book};
+use files::{stored_book, stored_table};
 use sessions::{ROOM, answer_session};
-use std::env::{Env, FillError};
+use std::env::Env;
 use std::fs;
 use std::fs::File;
+use std::io::ErrorKind;
 use streams::arguments::{PATH_ROOM, path_of};
 use streams::telling::told;
 
@@ -32,37 +31,35 @@ fn say_refusal(rt: HostRuntime, why: Refusal) {
     told(rt, WHAT, print!(rt; "\n(no {number})\n"));
 }
 
-// What a session of this name begins with, the lent table first: it becomes that of NAME.std. Then its book, where one is
-// stored.
-fn begin(rt: HostRuntime, name: &str, table: &mut Table) -> Result<Option<Book>, Refusal> {
-    load_std(rt, name, table)?;
-    stored_book(rt, name)
+// The session of an open file of this name, with the table that is stored for it, or else the built-in one.
+fn answer_file(
+    rt: HostRuntime,
+    file: File,
+    name: &str,
+    out: &mut [u8; ROOM],
+) -> Result<(), Refusal> {
+    let table = stored_table(rt, name)?.unwrap_or(printed_grid());
+    let book = stored_book(rt, name)?;
+    answer_session(rt, file, table, book, out);
+    Ok(())
 }
 
-// The session of an open file of this name.
-fn answer_file(rt: HostRuntime, file: File, name: &str, out: &mut [u8; ROOM]) {
-    let mut table = printed_grid();
-    match begin(rt, name, &mut table) {
-        Ok(stored) => answer_session(rt, file, table, stored, out),
-        Err(why) => say_refusal(rt, why),
-    }
-}
-
-// Nothing where there is no such argument. A file that is missing is said where the session's text would stand.
+// Nothing where there is no such argument, which ends the run: an Option, as of any next one. A file that is missing is said where the session's text would stand.
 fn answer_argument(rt: HostRuntime, i: usize, out: &mut [u8; ROOM]) -> Option<()> {
     let mut buffer = [0u8; PATH_ROOM];
     let answer = rt.arg(i, &mut buffer);
-    if matches!(answer, Err(FillError::NotPresent)) {
-        return None;
-    }
-    say(rt, b"== ");
-    let Ok(name) = path_of(answer, &buffer) else {
-        say(rt, b" missing\n");
-        return Some(());
+    let name = match path_of(answer, &buffer) {
+        Ok(name) => name,
+        Err(why) if why.kind() == ErrorKind::NotFound => return None,
+        Err(_) => {
+            say(rt, b"==  missing\n");
+            return Some(());
+        }
     };
+    say(rt, b"== ");
     say(rt, name.as_bytes());
     match fs::open(&rt, name) {
-        Ok(file) => answer_file(rt, file, name, out),
+        Ok(file) => answer_file(rt, file, name, out).unwrap_or_else(|why| say_refusal(rt, why)),
         Err(_) => say(rt, b" missing\n"),
     }
     Some(())
@@ -70,6 +67,7 @@ fn answer_argument(rt: HostRuntime, i: usize, out: &mut [u8; ROOM]) -> Option<()
 
 fn main(rt: HostRuntime) {
     let mut out = [0u8; ROOM];
+    // by number: std's list of the arguments is made on the heap, and can fail to be
     for i in 1..usize::MAX {
         if answer_argument(rt, i, &mut out).is_none() {
             return;

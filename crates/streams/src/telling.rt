@@ -10,6 +10,9 @@ use std::io::{Cursor, Write};
 // No text of std's for an error is longer.
 const TEXT_ROOM: usize = 512;
 
+// What std puts behind the system's words, before the error's number.
+const NUMBERED: &[u8] = b" (os error ";
+
 // Tells what failed and why, in the system's own words.
 pub fn tell<W: Write>(to: &mut W, what: &str, why: &io::Error) -> io::Result<()>
     ensures { OnOk result ((text : List ℕ)
@@ -32,7 +35,7 @@ pub fn told<T>(rt: HostRuntime, what: &str, done: io::Result<T>) -> Option<T>
 }
 
 // One line of what failed, and of a text for it without the number that it may end in. The text is bytes, which `write!`
-// does not take.
+// does not take; so the whole line goes by `write_all`.
 pub fn put_message<W: Write>(to: &mut W, what: &str, text: &[u8]) -> io::Result<()>
     ensures { OnOk result (Appends (W.contents to.old) (W.contents to.new) (message what.now text.now)) }
 {
@@ -42,17 +45,12 @@ pub fn put_message<W: Write>(to: &mut W, what: &str, text: &[u8]) -> io::Result<
     to.write_all(b"\n")
 }
 
-// Where the number begins that a text for an error ends in, or the text's end. An index, since of a chain over
-// `starts_with` a proof does not learn where it ended.
-#[tactic(auto, using(crate::proofs::MessageLaws::no_words, crate::proofs::MessageLaws::one_more, crate::proofs::MessageLaws::rest_is, crate::proofs::MessageLaws::looked_through, crate::proofs::MessageLaws::all_looked_through))]
+// Where the number begins that a text for an error ends in, or the text's end.
 fn words_end(text: &[u8]) -> usize
     ensures in_text { result ≤ length text.now }
     ensures words { take result text.now ≡ words text.now }
 {
-    for at in 0..text.len() {
-        if text[at..].starts_with(b" (os error ") {
-            return at;
-        }
-    }
-    text.len()
+    text.windows(NUMBERED.len())
+        .position(|w| w == NUMBERED)
+        .unwrap_or(text.len())
 }

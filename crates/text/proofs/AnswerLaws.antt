@@ -2,14 +2,11 @@
 use Prim.Native.Nat.{ℕ, zero, suc, ◌+◌, ◌*◌, ◌≤◌, ◌<◌}
 use native.Mathlib.Nat.{not-suc-le-zero}
 use native.Mathlib.Omega.{arith}
-use mathlib.Core.Bool.{true, false, true≢false}
 use mathlib.Core.Path.{◌≡◌, refl}
 use mathlib.Core.List.{List, [], ◌∷◌}
 use lib.Dec.{leb, T, leb→le}
 use lib.IntN.{ℤ, pos, negsuc, nat_abs}
 use lib.ListN.{length}
-use lib.Signed.{lt_z}
-use borrow.Author.Tests.{ltb-true}
 use Rattle.std.specs.Prelude.{Ok, Err}
 use Rattle.figuring.specs.declared.units.Mg.{Mg}
 use Rattle.book.specs.declared.answers.Answer.{Answer}
@@ -19,6 +16,7 @@ use Rattle.book.proofs.RefusalLaws.{number_above_0}
 use Rattle.text.specs.Ascii.{ascii}
 use Rattle.text.specs.Pattern.{filled, hashes}
 use Rattle.text.specs.Answers.{said_for, text_of, answer_room}
+use Rattle.text.specs.Placing.{by_sign}
 use Rattle.text.proofs.FillLaws.{filled_length}
 
 -- ---- a refusal
@@ -40,31 +38,21 @@ pub left_text : (m : Mg) → text_of (Ok (Answer.Left m)) ≡ filled (ascii "(ok
 unfolding text_of refusal_in values_in filled
 left_text m = refl
 
-filed_plus : (n k : ℕ) → text_of (Ok (Answer.Filed (record { 0 = pos n }) k)) ≡ filled (ascii "(ok # #)\n") (n ∷ k ∷ [])
+-- a filing's pattern is that of its part's sign; z is the part as the code reads it
+pub filed_text :
+    {x z : ℤ} {m : ℕ} (k : ℕ) → z ≡ x → m ≡ nat_abs z
+    → filled (by_sign z (ascii "(ok -# #)\n") (ascii "(ok # #)\n")) (m ∷ k ∷ [])
+    ≡ text_of (Ok (Answer.Filed (record { 0 = x }) k))
 unfolding text_of refusal_in values_in filled
-filed_plus n k = refl
-
-filed_minus :
-    (n k : ℕ) → text_of (Ok (Answer.Filed (record { 0 = negsuc n }) k)) ≡ filled (ascii "(ok -# #)\n") (suc n ∷ k ∷ [])
-unfolding text_of refusal_in values_in filled
-filed_minus n k = refl
+filed_text {x} {z} k s e = rw (← s, e) (go z)
+  where
+    go : (z : ℤ) → filled (by_sign z (ascii "(ok -# #)\n") (ascii "(ok # #)\n")) (nat_abs z ∷ k ∷ [])
+        ≡ text_of (Ok (Answer.Filed (record { 0 = z }) k))
+    go (pos n) = refl
+    go (negsuc n) = refl
 
 -- the texts that are one pattern, and how long a pattern can be filled
 pub ruleset texts = (refused_text, closed_text, left_text, filled_length)
-
--- a filing's, by the test of its part's sign
-module _ (m k : ℕ) where
-  pub plus :
-      (x : ℤ) → m ≡ nat_abs x → lt_z x (pos 0) ≡ false → filled (ascii "(ok # #)\n") (m ∷ k ∷ [])
-      ≡ text_of (Ok (Answer.Filed (record { 0 = x }) k))
-  plus (pos n) e h = rw (e, filed_plus n k)
-  plus (negsuc n) e h = absurd (true≢false h)
-
-  pub minus :
-      (x : ℤ) → m ≡ nat_abs x → lt_z x (pos 0) ≡ true → filled (ascii "(ok -# #)\n") (m ∷ k ∷ [])
-      ≡ text_of (Ok (Answer.Filed (record { 0 = x }) k))
-  minus (pos n) e h = absurd (omega (arith, ltb-true n 0 h))
-  minus (negsuc n) e h = rw (e, filed_minus n k)
 
 -- ---- no answer's line is longer than its room
 short : (p ns : List ℕ) → T (leb (length p + 20 * hashes p) answer_room) → length (filled p ns) ≤ answer_room
@@ -73,10 +61,10 @@ short p ns t = omega (arith, filled_length p ns, leb→le (length p + 20 * hashe
 pub text_length : (a : Answered) → length (text_of a) ≤ answer_room
 unfolding hashes
 text_length (Err r) = rw refused_text (short _ _ tt)
-text_length (Ok (Answer.Filed p k)) = go p.0
+text_length (Ok (Answer.Filed p k)) = rw (← filed_text {x = p.0} {m = nat_abs p.0} k refl refl) (go p.0)
   where
-    go : (z : ℤ) → length (text_of (Ok (Answer.Filed (record { 0 = z }) k))) ≤ answer_room
-    go (pos n) = rw filed_plus (short _ _ tt)
-    go (negsuc n) = rw filed_minus (short _ _ tt)
+    go : (z : ℤ) → length (filled (by_sign z (ascii "(ok -# #)\n") (ascii "(ok # #)\n")) (nat_abs z ∷ k ∷ [])) ≤ answer_room
+    go (pos n) = short _ _ tt
+    go (negsuc n) = short _ _ tt
 text_length (Ok (Answer.Closed k)) = rw closed_text (short _ _ tt)
 text_length (Ok (Answer.Left m)) = rw left_text (short _ _ tt)

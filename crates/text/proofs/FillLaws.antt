@@ -1,13 +1,13 @@
 -- Laws of putting a pattern into a buffer, a step at a time.
-use Prim.Native.Nat.{ℕ, zero, suc, ◌+◌, ◌-◌, ◌*◌, ◌/◌, ◌%◌, ◌≤◌, ◌<◌}
+use Prim.Native.Nat.{ℕ, zero, suc, ◌+◌, ◌*◌, ◌/◌, ◌%◌, ◌≤◌, ◌<◌}
 use native.Mathlib.Numerals.{add-one}
 use native.Mathlib.Omega.{arith}
 use mathlib.Core.Bool.{Bool, true, false, cond}
 use mathlib.Core.Path.{◌≡◌, refl, sym, ap}
 use mathlib.Core.List.{List, [], ◌∷◌, ◌++◌, append_assoc, append-nil}
 use lib.Dec.{eqb, ltb, lit≤}
-use lib.ListN.{length, get_or, take, drop, length-append, length-drop, drop_of_length-le}
-use lib.Seq.{take_all, drop-cons}
+use lib.ListN.{length, get_or, drop, length-append, drop_of_length-le}
+use lib.Seq.{drop-cons}
 use borrow.Author.Tests.{eq-eqb, ne_eqb}
 use Rattle.text.specs.Numeral.{numeral, numeral_of}
 use Rattle.text.specs.Pattern.{hashes, filled, choose, hash}
@@ -33,31 +33,29 @@ module _ {p ns left : List ℕ} {a b : Page} {i : ℕ} (f : Filling p ns a b lef
       unfolding hashes
       fewer = rw (drop-cons p i 0 here, eq-eqb _ hash is-hash)
 
-      pub one_left : 1 ≤ length left
-      one_left = omega (arith, f.as_many, fewer)
+      pub one_left : length left ≡ 0 → ⊥
+      one_left e = absurd (omega (arith, f.as_many, fewer))
 
-      step : filled (drop i p) left ≡ numeral (get_or left 0 0) ++ filled (drop (suc i) p) (drop 1 left)
-      unfolding filled
-      step = rw (drop-cons p i 0 here, eq-eqb _ hash is-hash)
+      module _ {n : ℕ} {rest : List ℕ} (next : left ≡ n ∷ rest) where
+        step : filled (drop i p) left ≡ numeral n ++ filled (drop (suc i) p) rest
+        unfolding filled
+        step = rw (drop-cons p i 0 here, eq-eqb _ hash is-hash, next)
 
-      pub number_room : HasRoom (length (filled p ns)) a → HasRoom (length (numeral (get_or left 0 0))) b
-      number_room h =
-          let n : length (filled p ns)
-          ≡ length f.done + (length (numeral (get_or left 0 0)) + length (filled (drop (suc i) p) (drop 1 left))) =
-          rw (f.rest, step) (simp length-append) in
-          omega (arith, h, after_adds f.adds)
+        pub number_room : HasRoom (length (filled p ns)) a → HasRoom (length (numeral n)) b
+        number_room h =
+            let k : length (filled p ns)
+            ≡ length f.done + (length (numeral n) + length (filled (drop (suc i) p) rest)) =
+            rw (f.rest, step) (simp length-append) in
+            omega (arith, h, after_adds f.adds)
 
-      pub put_number :
-          {c : Page} → Adds (numeral (get_or left 0 0)) b c
-          → Filling p ns a c (take (length left - 1) (drop 1 left)) (i + 1)
-      put_number h =
-          rw (take_all (length left - 1) (drop 1 left) (rw length-drop (omega arith)))
-          (record {
-            as_many = rw add-one (simp length-drop (omega (arith, f.as_many, fewer)));
-            done = f.done ++ numeral (get_or left 0 0);
-            adds = adds_then f.adds h;
-            rest = rw (f.rest, step, add-one i, append_assoc);
-          })
+        pub put_number : {c : Page} → Adds (numeral n) b c → Filling p ns a c rest (i + 1)
+        put_number h =
+            record {
+              as_many = rw add-one (omega (arith, f.as_many, fewer, ap length next));
+              done = f.done ++ numeral n;
+              adds = adds_then f.adds h;
+              rest = rw (f.rest, step, add-one i, append_assoc);
+            }
 
     module _ (other : get_or p i 0 ≡ hash → ⊥) where
       same : hashes (drop i p) ≡ hashes (drop (suc i) p)

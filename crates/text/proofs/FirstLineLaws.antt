@@ -1,23 +1,24 @@
 -- The first line of a text, and the text that follows it; and texts with no line feed in them.
-use Prim.Native.Nat.{ℕ, zero, suc, ◌+◌, ◌-◌, ◌/◌, ◌%◌, ◌≤◌, ◌<◌}
-use native.Mathlib.Nat.{zero-add, suc-add}
+use Prim.Native.Nat.{ℕ, zero, suc, ◌+◌, ◌-◌, ◌/◌, ◌%◌, ◌<◌}
 use native.Mathlib.Omega.{arith}
 use mathlib.Core.Bool.{Bool, true, false, not, cond, ◌&&◌}
 use mathlib.Core.Logic.{◌⊎◌, inl, inr, ⊎_elim}
 use mathlib.Core.Path.{◌≡◌, refl, sym, ap, subst, ◌∙◌}
 use mathlib.Core.List.{List, [], ◌∷◌, ◌++◌, append_assoc}
 use lib.Dec.{eqb, ltb}
-use lib.ListN.{length, get_or, take, drop, length-append, length-drop}
-use lib.Seq.{drop-drop, take_all, take-nil}
-use borrow.Author.Tests.{eqb-true, eqb-false, not-true}
-use Rattle.std.specs.List.{take_while}
-use Rattle.std.proofs.lemmas.List.Sums.{take_while-cons}
+use lib.ListN.{length, get_or, take, drop, drop_of_length-le}
+use lib.Seq.{take_all}
+use borrow.Author.Tests.{eqb-true, eqb-false, ne_eqb, not-true}
+use Rattle.std.proofs.Common.{Option, None, Some}
+use denote.Ref.{Bor}
+use Rattle.std.specs.Option.{MatchOption, unwrap_or}
+use Rattle.std.proofs.lemmas.List.{drop-take}
 use Rattle.figuring.proofs.BoolLaws.{both}
 use Rattle.text.specs.Numeral.{numeral, numeral_of}
 use Rattle.text.specs.Pattern.{filled, hash, choose}
 use Rattle.text.specs.Desk.{line_feed}
 use Rattle.text.specs.Lines.{lines_from, lines_of, OneLine}
-use Rattle.text.specs.FirstLine.{first_line, after_line, line_end}
+use Rattle.text.specs.FirstLine.{first_line, after_line, Lacks, Parted}
 use Rattle.text.proofs.SessionLaws.{lines}
 
 -- ---- a pattern with no line feed in it is filled to one line
@@ -101,11 +102,6 @@ first_cut (suc k) (b ∷ s) = go (eqb b line_feed) (first_cut k s)
     go true ih = refl
     go false ih = ap (λ (l : List ℕ). b ∷ l) ih
 
-cut_drop : (n j : ℕ) (s : List ℕ) → drop n (take (n + j) s) ≡ take j (drop n s)
-cut_drop zero j s = rw (zero-add j)
-cut_drop (suc n) j [] = rw (take-nil (suc n + j), take-nil j)
-cut_drop (suc n) j (b ∷ s) = rw (suc-add n j) (cut_drop n j s)
-
 -- where the cut is past its line feed
 pub after_cut :
     (k : ℕ) (s : List ℕ) → length (first_line s) < k
@@ -115,57 +111,35 @@ after_cut k s h =
     let f : first_line (take k s) ≡ first_line s = first_cut k s ∙ take_all k (first_line s) (omega arith) in
     let e : k ≡ n + (k - n) = omega arith in
     ap (λ (l : List ℕ). drop (suc (length l)) (take k s)) f
-    ∙ ap (λ (j : ℕ). drop n (take j s)) e ∙ cut_drop n (k - n) s
+    ∙ ap (λ (j : ℕ). drop n (take j s)) e ∙ drop-take n (k - n) s
 
--- ---- by places
-pub first_taken : (s : List ℕ) → take (length (first_line s)) s ≡ first_line s
+-- ---- by its line feed
+pub one_line : (l : List ℕ) → Lacks line_feed l → OneLine l
+one_line [] h = tt
+one_line (b ∷ l) h = (h.0, one_line l h.1)
+
+first_before : (l r : List ℕ) → OneLine l → first_line (l ++ (line_feed ∷ r)) ≡ l
 unfolding first_line
-first_taken [] = refl
-first_taken (b ∷ s) = go (eqb b line_feed) (first_taken s)
-  where
-    go :
-        (e : Bool) → take (length (first_line s)) s ≡ first_line s
-        → take (length (cond e [] (b ∷ first_line s))) (b ∷ s) ≡ cond e [] (b ∷ first_line s)
-    go true ih = refl
-    go false ih = ap (λ (l : List ℕ). b ∷ l) ih
+first_before [] r h = refl
+first_before (b ∷ l) r h = rw (ne_eqb b line_feed h.0, first_before l r h.1)
 
--- the line that begins at a place, and what follows it, by where the line ends
-module _ (text : List ℕ) (at : ℕ) {end : ℕ} (ends : end ≡ line_end text at) where
-  pub line_at : take (end - at) (drop at text) ≡ first_line (drop at text)
-  line_at =
-      let e : end - at ≡ length (first_line (drop at text)) = omega arith in
-      rw e (first_taken (drop at text))
+drop_past : (l r : List ℕ) → drop (suc (length l)) (l ++ (line_feed ∷ r)) ≡ r
+drop_past [] r = refl
+drop_past (b ∷ l) r = drop_past l r
 
-  pub after_at : drop (end + 1) text ≡ after_line (drop at text)
-  after_at =
-      let e : end + 1 ≡ at + suc (length (first_line (drop at text))) = omega arith in
-      rw e (sym (drop-drop (suc (length (first_line (drop at text)))) at text))
-
--- std's word for the line
-pub first_while : (s : List ℕ) → first_line s ≡ take_while (λ b. not (eqb b line_feed)) s
+first_last : (l : List ℕ) → OneLine l → first_line l ≡ l
 unfolding first_line
-first_while [] = refl
-first_while (b ∷ s) =
-    rw (first_while s, take_while-cons (λ b. not (eqb b line_feed)) b s) (go (eqb b line_feed) (take_while (λ b. not (eqb b line_feed)) s))
-  where
-    go : (e : Bool) (l : List ℕ) → cond e [] (b ∷ l) ≡ cond (not e) (b ∷ l) []
-    go true l = refl
-    go false l = refl
+first_last [] h = refl
+first_last (b ∷ l) h = rw (ne_eqb b line_feed h.0, first_last l h.1)
 
--- ---- the line that begins at a place, by its length in what is left there
-pub rest_is : (s : List ℕ) (at : ℕ) → take (length s - at) (drop at s) ≡ drop at s
-rest_is s at = take_all (length s - at) (drop at s) (omega (arith, length-drop at s))
-
-first_in : (s : List ℕ) → length (first_line s) ≤ length s
-first_in s = go (parted s)
-  where
-    go : IsLast s ⊎ (s ≡ first_line s ++ line_feed ∷ after_line s) → length (first_line s) ≤ length s
-    go (inl p) = omega (arith, ap length p.0)
-    go (inr p) = omega (arith, ap length p, length-append (first_line s) (line_feed ∷ after_line s))
-
-pub ends_at :
-    (s : List ℕ) (at : ℕ) {n : ℕ} → at ≤ length s → n ≡ length (first_line (take (length s - at) (drop at s)))
-    → (at + n ≡ line_end s at) × (at + n ≤ length s)
-ends_at s at {n} h e =
-    let q : n ≡ length (first_line (drop at s)) = e ∙ rw (rest_is s at) in
-    (omega arith, omega (arith, first_in (drop at s), length-drop at s))
+-- where its line feed is found, or none is
+pub first_or_last :
+    (s : List ℕ) (o : Option (Bor (List ℕ) × Bor (List ℕ))) (d : Bor (List ℕ) × Bor (List ℕ))
+    → MatchOption o (Lacks line_feed s) (λ r. Parted line_feed s r.0.now r.1.now) → d.0.now ≡ s → d.1.now ≡ []
+    → ((unwrap_or o d).0.now ≡ first_line s) × ((unwrap_or o d).1.now ≡ after_line s)
+first_or_last s None d h e f =
+    let q : first_line s ≡ s = first_last s (one_line s h) in
+    rw q (e, f ∙ sym (drop_of_length-le s {i = suc (length s)} (omega arith)))
+first_or_last s (Some (l, r)) d h e f =
+    let q : first_line (l.now ++ (line_feed ∷ r.now)) ≡ l.now = first_before l.now r.now (one_line l.now h.lacks) in
+    rw (h.parts, q) (refl, sym (drop_past l.now r.now))

@@ -1,5 +1,6 @@
 pub mod DigitLaws
 pub mod StoreLaws
+pub mod SplitLaws
 pub mod PatternLaws
 pub mod NumeralLaws
 pub mod FillLaws
@@ -8,6 +9,7 @@ pub mod RenderLaws
 pub mod FormLaws
 pub mod TypedLaws
 pub mod AnswerLaws
+pub mod HeldLaws
 pub mod ServeLaws
 pub mod DeskLaws
 pub mod SessionLaws
@@ -21,6 +23,7 @@ pub mod TableTextLaws
 pub mod LoadLaws
 pub mod FeedLaws
 pub mod EntryLineLaws
+pub mod OneFormLaws
 pub mod GatherLaws
 pub mod EntryOrderLaws
 pub mod EntryFacts

@@ -1,5 +1,5 @@
 -- Laws of the listing: what stands in the buffer after each turn of its loops, and how long it can be.
-use Prim.Native.Nat.{ℕ, zero, suc, ◌+◌, ◌*◌, ◌≤◌, ◌<◌}
+use Prim.Native.Nat.{ℕ, zero, suc, ◌+◌, ◌-◌, ◌*◌, ◌≤◌, ◌<◌}
 use native.Mathlib.Nat.{suc-mul, mul-le-mul_right}
 use native.Mathlib.Numerals.{add-one}
 use native.Mathlib.Omega.{arith}
@@ -13,6 +13,7 @@ use Rattle.book.specs.Listing.{lot_entry, shortage_entry}
 use Rattle.book.specs.declared.ledger.Book.{Book}
 use Rattle.book.specs.declared.listing.LotEntry.{LotEntry}
 use Rattle.book.specs.declared.listing.ShortageEntry.{ShortageEntry}
+use Rattle.book.proofs.PlaceLaws.{counted, counted_on}
 use Rattle.text.specs.Gather.{gather}
 use Rattle.text.specs.Pattern.{filled}
 use Rattle.text.specs.declared.page.Page.{Page}
@@ -40,18 +41,6 @@ module _ (p : List ℕ) (m s y mg : ℕ) (hm : m < 10) (hs : s < 10) (hy : y < 1
       )
 
 module _ (o : ℕ) (l : List ℕ) (m s i : ℕ) where
-  pub lot_adds :
-      {entry : Option LotEntry} {a b : Page} → entry ≡ lot_entry o l m s (first_year + i)
-      → Adds (lot_text m s (first_year + i) entry) a b → Adds (lot_line o l m s i) a b
-  unfolding lot_line
-  lot_adds e h = adds_text (ap (lot_text m s (first_year + i)) e) h
-
-  pub shortage_adds :
-      {entry : Option ShortageEntry} {a b : Page} → entry ≡ shortage_entry o l m s (first_year + i)
-      → Adds (shortage_text m s (first_year + i) entry) a b → Adds (shortage_line o l m s i) a b
-  unfolding shortage_line
-  shortage_adds e h = adds_text (ap (shortage_text m s (first_year + i)) e) h
-
   module _ (hm : m < makers) (hs : s < sets) (hi : i < years) where
     pub lot_length : length (lot_line o l m s i) ≤ entry_room
     unfolding lot_line
@@ -70,6 +59,20 @@ module _ (o : ℕ) (l : List ℕ) (m s i : ℕ) where
         go (Some (ShortageEntry.Open mg)) = entry_length _ _ _ _ _ (omega arith) (omega arith) (omega arith) (lit≤ tt)
         go (Some (ShortageEntry.Overdue mg)) = entry_length _ _ _ _ _ (omega arith) (omega arith) (omega arith) (lit≤ tt)
         go None = omega arith
+
+-- the line of a year, as the loops have it
+module _ (o : ℕ) (l : List ℕ) (m s y : ℕ) (f : first_year ≤ y) where
+  pub lot_adds :
+      {entry : Option LotEntry} {a b : Page} → entry ≡ lot_entry o l m s y
+      → Adds (lot_text m s y entry) a b → Adds (lot_line o l m s (y - first_year)) a b
+  unfolding lot_line
+  lot_adds e h = rw (counted y f) (adds_text (ap (lot_text m s y) e) h)
+
+  pub shortage_adds :
+      {entry : Option ShortageEntry} {a b : Page} → entry ≡ shortage_entry o l m s y
+      → Adds (shortage_text m s y entry) a b → Adds (shortage_line o l m s (y - first_year)) a b
+  unfolding shortage_line
+  shortage_adds e h = rw (counted y f) (adds_text (ap (shortage_text m s y) e) h)
 
 -- ---- a loop that puts f 0, f 1, .. one after the other, each of at most m bytes: page a has come to b
 pub record Gathered (f : ℕ → List ℕ) (m : ℕ) (a b : Page) (i : ℕ) : Type 0 where
@@ -97,6 +100,12 @@ module _ {f : ℕ → List ℕ} {m : ℕ} {a b : Page} {i : ℕ} (g : Gathered f
 
   pub all_gathered : (n : ℕ) → i ≤ n → n ≤ i → Adds (gather n f) a b
   all_gathered n l h = let e : i ≡ n = omega arith in rw (← e) g.adds
+
+-- the same, where the loop goes by years
+pub one_more_year :
+    {f : ℕ → List ℕ} {m : ℕ} {a b c : Page} (y : ℕ) → first_year ≤ y → Gathered f m a b (y - first_year)
+    → length (f (y - first_year)) ≤ m → Adds (f (y - first_year)) b c → Gathered f m a c (y + 1 - first_year)
+one_more_year y l g h k = rw (counted_on y l) (one_more g h k)
 
 pub gather_length : (f : ℕ → List ℕ) (m n : ℕ) → ((i : ℕ) → i < n → length (f i) ≤ m) → length (gather n f) ≤ n * m
 unfolding gather

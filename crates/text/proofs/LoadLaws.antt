@@ -1,6 +1,5 @@
 -- What the reader of a table needs: the row of a line, and the loop over the years.
-use Prim.Native.Nat.{ℕ, suc, ◌+◌, ◌-◌, ◌≤◌, ◌<◌, min}
-use native.Mathlib.Decide.{dec_le}
+use Prim.Native.Nat.{ℕ, suc, ◌+◌, ◌-◌, ◌≤◌, ◌<◌}
 use native.Mathlib.Numerals.{add-one}
 use native.Mathlib.Omega.{arith}
 use mathlib.Core.Bool.{true, false, cond}
@@ -8,8 +7,8 @@ use Rattle.std.proofs.Common.{Option, None, Some}
 use mathlib.Core.Path.{◌≡◌, refl, sym, ap, subst, ◌∙◌}
 use mathlib.Core.List.{List, [], ◌∷◌, ◌++◌, append_assoc, append-nil}
 use lib.Dec.{eqb, lit≤}
-use lib.ListN.{length, get_or, take, drop, set, replicate, length-set, drop_of_length-le}
-use lib.Seq.{drop-cons, take_all, take-suc-set}
+use lib.ListN.{length, get_or, take, set, replicate, length-set}
+use lib.Seq.{take_all, take-suc-set}
 use borrow.Author.Tests.{lt-ltb, le-ltb, eq-eqb, ne_eqb}
 use Rattle.figuring.specs.Grid.{grid_years}
 use Rattle.figuring.specs.Years.{first_year}
@@ -18,12 +17,12 @@ use Rattle.book.specs.declared.answers.Refusal.TheVariants.{NotATable, UnfitTabl
 use Rattle.text.specs.Pattern.{fit, hashes}
 use Rattle.text.specs.Line.{longest_line, most_digits}
 use Rattle.text.specs.Lines.{lines_from, lines_of}
-use Rattle.text.specs.Loads.{Read, accepted, refused, loading_of, kept}
+use Rattle.text.specs.Loads.{Read, accepted, refused}
 use Rattle.text.specs.TableText.{std_form, of_year, row_in, with_row, on_row, rows_from, table_of}
-use Rattle.text.specs.FirstLine.{after_line, line_end}
+use Rattle.text.specs.FirstLine.{first_line, after_line}
 use Rattle.text.proofs.FormLaws.{listed}
 use Rattle.text.proofs.RenderLaws.{fit_fills}
-use Rattle.text.proofs.FirstLineLaws.{line_at, after_at}
+use Rattle.std.proofs.lemmas.List.{nil_from_length}
 use Rattle.text.proofs.TableRowsLaws.{onward, too_many}
 
 -- ---- the row of a line
@@ -57,12 +56,6 @@ module _ (y : ℕ) (l : List ℕ) where
       pub a_row : get_or ns 0 0 ≡ y → Some (entries_in ns) ≡ row_in y l
       a_row e = sym (dated ∙ rw (eq-eqb (get_or ns 0 0) y e))
 
--- ---- what is answered
-pub answered :
-    (s : List ℕ) (old : Table) {r : Read Table} → table_of s ≡ r
-    → (loading_of r ≡ loading_of (table_of s)) × (kept r old ≡ kept (table_of s) old)
-answered s old e = rw e (refl, refl)
-
 -- ---- the loop
 -- rows before those that are read
 abbrev with_rows : Table → Read Table → Read Table
@@ -77,46 +70,33 @@ with_one : (rows : Table) (row : List ℕ) (q : Read Table) → with_rows rows (
 with_one rows row (accepted t) = ap {B = Read Table} accepted (sym (append_assoc rows (row ∷ []) t))
 with_one rows row (refused r) = refl
 
--- what the lines from a place on come to, after those of i years, of which the last has the row `before`
-abbrev lines_at : List ℕ → ℕ → ℕ → List ℕ → Read Table
-lines_at text at i before = rows_from (grid_years - i) (first_year + i) before (lines_of (drop at text))
-
--- the rows of i years stand in the grid, the last of them is `before`, and the next line begins at `at`
-pub record Loaded (text : List ℕ) (grid : Table) (before : List ℕ) (at i : ℕ) : Type 0 where
-  pub in_text : at ≤ length text
+-- the rows of i years stand in the grid, the last of them is `before`, and `rest` is left of the text
+pub record Loaded (text : List ℕ) (grid : Table) (before rest : List ℕ) (i : ℕ) : Type 0 where
   pub in_grid : i ≤ grid_years
   pub long : length grid ≡ grid_years
-  pub rest : table_of text ≡ with_rows (take i grid) (lines_at text at i before)
+  pub so_far :
+      table_of text ≡ with_rows (take i grid) (rows_from (grid_years - i) (first_year + i) before (lines_of rest))
 
-pub start : (text : List ℕ) → Loaded text (replicate grid_years no_row) no_row 0 0
+pub start : (text : List ℕ) → Loaded text (replicate grid_years no_row) no_row text 0
 unfolding table_of
-start text =
-    record { in_text = omega arith; in_grid = omega arith; long = refl; rest = with_none _ }
+start text = record { in_grid = omega arith; long = refl; so_far = with_none _ }
 
-module _ {text : List ℕ} {grid : Table} {before : List ℕ} {at i : ℕ} (h : Loaded text grid before at i) where
-  module _ (more : i < grid_years) {end : ℕ} (ends : end ≡ line_end text at) where
-    next_is : drop (min (end + 1) (length text)) text ≡ after_line (drop at text)
-    next_is = go (dec_le (end + 1) (length text))
-      where
-        go : Dec (end + 1 ≤ length text) → drop (min (end + 1) (length text)) text ≡ after_line (drop at text)
-        go (yes l) = let e : min (end + 1) (length text) ≡ end + 1 = omega arith in rw e (after_at text at ends)
-        go (no l) =
-            drop_of_length-le text {i = min (end + 1) (length text)} (omega arith)
-            ∙ sym (drop_of_length-le text {i = end + 1} (omega arith)) ∙ after_at text at ends
-
+module _ {text : List ℕ} {grid : Table} {before rest : List ℕ} {i : ℕ} (h : Loaded text grid before rest i) where
+  module _ (more : i < grid_years) {line after : List ℕ} (first : line ≡ first_line rest) (left : after ≡ after_line rest) where
     step :
-        (o : Option (List ℕ)) → row_in (first_year + i) (take (end - at) (drop at text)) ≡ o
+        (o : Option (List ℕ)) → row_in (first_year + i) line ≡ o
         → table_of text
-        ≡ with_rows (take i grid) (on_row before o (λ row. lines_at text (min (end + 1) (length text)) (i + 1) row))
+        ≡ with_rows (take i grid)
+        (on_row before o (λ row. rows_from (grid_years - (i + 1)) (first_year + (i + 1)) row (lines_of after)))
     step o e =
         let q : grid_years - i ≡ suc (grid_years - (i + 1)) = omega arith in
         let y : first_year + (i + 1) ≡ suc (first_year + i) = omega arith in
-        h.rest
-        ∙ ap (λ (n : ℕ). with_rows (take i grid) (rows_from n (first_year + i) before (lines_of (drop at text)))) q
-        ∙ ap (with_rows (take i grid)) (onward (grid_years - (i + 1)) (first_year + i) before (drop at text))
-        ∙ rw (y, next_is, ← line_at text at ends, e)
+        h.so_far
+        ∙ ap (λ (n : ℕ). with_rows (take i grid) (rows_from n (first_year + i) before (lines_of rest))) q
+        ∙ ap (with_rows (take i grid)) (onward (grid_years - (i + 1)) (first_year + i) before rest)
+        ∙ rw (y, ← left, ← first, e)
 
-    module _ {o : Option (List ℕ)} (read : o ≡ row_in (first_year + i) (take (end - at) (drop at text))) where
+    module _ {o : Option (List ℕ)} (read : o ≡ row_in (first_year + i) line) where
       pub no_line : o ≡ None → table_of text ≡ refused NotATable
       no_line e = step None (sym read ∙ e)
 
@@ -124,36 +104,38 @@ module _ {text : List ℕ} {grid : Table} {before : List ℕ} {at i : ℕ} (h : 
         pub unfit : row_fits before row ≡ false → table_of text ≡ refused UnfitTable
         unfit e = step (Some row) (sym read ∙ is) ∙ rw e
 
-        pub one_more :
-            row_fits before row ≡ true → {next : ℕ} → next ≡ min (end + 1) (length text)
-            → Loaded text (set grid i row) row next (i + 1)
-        one_more e n =
+        pub one_more : row_fits before row ≡ true → Loaded text (set grid i row) row after (i + 1)
+        one_more e =
             let k : take (i + 1) (set grid i row) ≡ take i grid ++ (row ∷ []) =
             rw (add-one i) (take-suc-set grid i row (omega (arith, h.long))) in
             record {
-              in_text = omega arith;
               in_grid = omega arith;
               long = length-set grid i row ∙ h.long;
-              rest =
+              so_far =
                   step (Some row) (sym read ∙ is)
-                  ∙ rw (e, k, n)
-                  (with_one (take i grid) row (lines_at text (min (end + 1) (length text)) (i + 1) row));
+                  ∙ rw (e, k)
+                  (with_one (take i grid) row
+                  (rows_from (grid_years - (i + 1)) (first_year + (i + 1)) row (lines_of after)));
             }
 
   module _ (done : grid_years ≤ i) where
-    left : table_of text ≡ with_rows grid (rows_from 0 (first_year + i) before (lines_of (drop at text)))
+    left : table_of text ≡ with_rows grid (rows_from 0 (first_year + i) before (lines_of rest))
     left =
         let z : grid_years - i ≡ 0 = omega arith in
-        h.rest ∙ rw (z, take_all i grid (omega (arith, h.long)))
+        h.so_far ∙ rw (z, take_all i grid (omega (arith, h.long)))
 
-    pub line_more : at < length text → table_of text ≡ refused NotATable
-    line_more l = left ∙ rw (drop-cons text at 0 l, too_many (first_year + i) before (get_or text at 0) (drop (suc at) text))
+    pub line_more : (length rest ≡ 0 → ⊥) → table_of text ≡ refused NotATable
+    line_more l = left ∙ go rest l
+      where
+        go : (s : List ℕ) → (length s ≡ 0 → ⊥) → with_rows grid (rows_from 0 (first_year + i) before (lines_of s)) ≡ refused NotATable
+        go [] l = absurd (l refl)
+        go (b ∷ s) l = rw (too_many (first_year + i) before b s)
 
-    pub whole_table : length text ≤ at → table_of text ≡ accepted grid
+    pub whole_table : length rest ≡ 0 → table_of text ≡ accepted grid
     unfolding rows_from lines_from
-    whole_table l = left ∙ rw (drop_of_length-le text l, append-nil grid)
+    whole_table l = left ∙ rw (nil_from_length rest l, append-nil grid)
 
 -- what each reader needs: of a row, of the table
 pub ruleset reads_row = (long_line, no_form, other_year, a_row)
 
-pub ruleset reads_table = (start, no_line, unfit, line_more, whole_table, answered)
+pub ruleset reads_table = (start, no_line, unfit, line_more, whole_table)

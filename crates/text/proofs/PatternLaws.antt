@@ -2,16 +2,20 @@
 use Prim.Native.Nat.{ℕ, suc, ◌+◌, ◌-◌, ◌≤◌, ◌<◌}
 use native.Mathlib.Omega.{arith}
 use native.Mathlib.Numerals.{add-one}
-use mathlib.Core.Bool.{Bool, true, false, cond}
+use mathlib.Core.Bool.{Bool, true, false, cond, ◌&&◌}
 use mathlib.Core.Path.{◌≡◌, refl, sym, ap, ◌∙◌}
 use mathlib.Core.List.{List, [], ◌∷◌, ◌++◌, append_assoc, append-nil}
-use lib.ListN.{length, get_or, take, drop, set, replicate, length-replicate, length-set, length-drop, drop_of_length-le}
-use lib.Seq.{drop-cons, take-suc-set, take_all}
-use borrow.Author.Tests.{eq-eqb, ne_eqb}
+use lib.ListN.{length, take, drop, set, replicate, length-replicate, length-set}
+use lib.Seq.{take-suc-set, take_all}
+use borrow.Author.Tests.{ne_eqb, eqb-false}
+use Rattle.std.specs.Cmp.Lexicographic.{pointwise}
+use Rattle.text.specs.FirstLine.{Lacks, Parted}
+use lib.Dec.{eqb}
 use Rattle.std.proofs.Common.{Option, Some, None}
+use Rattle.std.proofs.lemmas.List.{take_rest}
 use Rattle.std.proofs.lemmas.Option.{none-some, same_Some}
 use Rattle.text.specs.Numeral.{number, proper, leading, value}
-use Rattle.text.specs.Pattern.{fit, hashes, prepended, hash}
+use Rattle.text.specs.Pattern.{fit, hashes, on_number, prepended, hash}
 use Rattle.text.proofs.DigitLaws.{lead_length}
 
 pub number_length : (most : ℕ) (s : List ℕ) (v d : ℕ) → number most s ≡ Some (v, d) → d ≤ length s
@@ -22,10 +26,6 @@ number_length most s v d e = go (proper most (leading s)) e
     go true q = let z = same_Some _ _ q in let w : length (leading s) ≡ d = ap (λ (r : ℕ × ℕ). r.1) z in omega (arith, lead_length s)
     go false q = absurd (none-some _ q)
 
-length_zero : (s : List ℕ) → length s ≡ 0 → s ≡ []
-length_zero [] e = refl
-length_zero (c ∷ s) e = absurd (omega (arith, e))
-
 prepended_twice : (a b : List ℕ) (o : Option (List ℕ)) → prepended a (prepended b o) ≡ prepended (a ++ b) o
 prepended_twice a b None = refl
 prepended_twice a b (Some ns) = ap {B = Option (List ℕ)} Some (sym (append_assoc a b ns))
@@ -34,90 +34,115 @@ prepended_nil : (o : Option (List ℕ)) → o ≡ prepended [] o
 prepended_nil None = refl
 prepended_nil (Some ns) = refl
 
--- up to place i of a pattern p, the first k numbers of n are read, and `rest` is left of a text s
-pub record Half (N most : ℕ) (p s n : List ℕ) (k : ℕ) (rest : List ℕ) (i : ℕ) : Type 0 where
-  pub wide : length n ≡ N
-  pub room : k + hashes (drop i p) ≡ N
-  pub goes : fit most p s ≡ prepended (take k n) (fit most (drop i p) rest)
+-- ---- a word of a pattern, with no # in it
+-- it stands at the start of a text
+abbrev at_start : List ℕ → List ℕ → Bool
+at_start w s = pointwise eqb (take (length w) s) w
 
-pub start : (most : ℕ) (p s : List ℕ) {N : ℕ} → hashes p ≡ N → Half N most p s (replicate N 0) 0 s 0
+fit_word :
+    (most : ℕ) (w p s : List ℕ) → Lacks hash w
+    → fit most (w ++ p) s ≡ cond (at_start w s) (fit most p (drop (length w) s)) None
+unfolding fit
+fit_word most [] p s h = refl
+fit_word most (c ∷ w) p [] h = rw (ne_eqb c hash h.0)
+fit_word most (c ∷ w) p (b ∷ s) h = rw (ne_eqb c hash h.0, fit_word most w p s h.1) (go (eqb b c) (at_start w s))
+  where
+    go :
+        (x y : Bool) → cond x (cond y (fit most p (drop (length w) s)) None) None
+        ≡ cond (x && y) (fit most p (drop (length w) s)) None
+    go true y = refl
+    go false y = refl
+
+-- the last word of a pattern is what is left of the text
+fit_end : (most : ℕ) (w s : List ℕ) → Lacks hash w → fit most w s ≡ cond (pointwise eqb s w) (Some []) None
+unfolding fit
+fit_end most [] [] h = refl
+fit_end most [] (b ∷ s) h = refl
+fit_end most (c ∷ w) [] h = rw (ne_eqb c hash h.0)
+fit_end most (c ∷ w) (b ∷ s) h = rw (ne_eqb c hash h.0, fit_end most w s h.1) (go (eqb b c) (pointwise eqb s w))
+  where
+    go : (x y : Bool) → ◌≡◌ {A = Option (List ℕ)} (cond x (cond y (Some []) None) None) (cond (x && y) (Some []) None)
+    go true y = refl
+    go false y = refl
+
+hashes_past : (w p : List ℕ) → Lacks hash w → hashes (w ++ p) ≡ hashes p
+unfolding hashes
+hashes_past [] p h = refl
+hashes_past (c ∷ w) p h = rw (ne_eqb c hash h.0) (hashes_past w p h.1)
+
+-- a pattern that has no # left
+no_hash : (p : List ℕ) → hashes p ≡ 0 → Lacks hash p
+unfolding hashes
+no_hash [] e = tt
+no_hash (c ∷ p) e = go (eqb c hash) refl e (no_hash p)
+  where
+    go : (b : Bool) → eqb c hash ≡ b → cond b (suc (hashes p)) (hashes p) ≡ 0 → (hashes p ≡ 0 → Lacks hash p) → Lacks hash (c ∷ p)
+    go true q e ih = absurd (omega arith)
+    go false q e ih = (eqb-false c hash q, ih e)
+
+-- ---- the loop
+-- the first i numbers of n are read, `form` is left of a pattern p and `rest` of a text s
+pub record Half (N most : ℕ) (p s n : List ℕ) (i : ℕ) (form rest : List ℕ) : Type 0 where
+  pub wide : length n ≡ N
+  pub room : i + hashes form ≡ N
+  pub goes : fit most p s ≡ prepended (take i n) (fit most form rest)
+
+pub start : (most : ℕ) (p s : List ℕ) {N : ℕ} → hashes p ≡ N → Half N most p s (replicate N 0) 0 p s
 start most p s {N} h =
     record { wide = length-replicate N 0; room = omega (arith, h); goes = prepended_nil (fit most p s) }
 
-module _ {N most : ℕ} {p s n : List ℕ} {k : ℕ} {rest : List ℕ} {i : ℕ} (half : Half N most p s n k rest i) where
-  stops : fit most (drop i p) rest ≡ None → None ≡ fit most p s
+module _ {N most : ℕ} {p s n : List ℕ} {i : ℕ} {form rest : List ℕ} (half : Half N most p s n i form rest) where
+  stops : fit most form rest ≡ None → None ≡ fit most p s
   stops e = sym (half.goes ∙ rw e)
 
-  module _ (here : i < length p) where
-    module _ (is-hash : get_or p i 0 ≡ hash) where
-      left : hashes (drop i p) ≡ suc (hashes (drop (suc i) p))
-      unfolding hashes
-      left = rw (drop-cons p i 0 here, eq-eqb _ hash is-hash)
+  module _ (here : i < N) where
+    pub hash_left : Lacks hash form → ⊥
+    unfolding hashes
+    hash_left h =
+        let q : hashes (form ++ []) ≡ 0 = hashes_past form [] h in
+        omega (arith, half.room, rw append-nil at q)
 
-      pub room_here : k < N
-      room_here = omega (arith, half.room, left)
-
-      pub no_number : number most rest ≡ None → None ≡ fit most p s
+    module _ {w after : List ℕ} (cut : Parted hash form w after) where
+      word_then :
+          fit most form rest
+          ≡ cond (at_start w rest) (on_number (number most (drop (length w) rest))
+          (λ v k. prepended (v ∷ []) (fit most after (drop k (drop (length w) rest))))) None
       unfolding fit
-      no_number e = stops (rw (drop-cons p i 0 here, eq-eqb _ hash is-hash, e))
+      word_then = rw cut.parts (fit_word most w (hash ∷ after) rest cut.lacks)
 
-      pub a_number :
-          (v d : ℕ) {n' rest' : List ℕ} {k' : ℕ} → number most rest ≡ Some (v, d) → n' ≡ set n k v → k' ≡ k + 1
-          → rest' ≡ take (length rest - d) (drop d rest) → Half N most p s n' k' rest' (i + 1)
-      unfolding fit
-      a_number v d e f g h =
-          let q : fit most (drop i p) rest ≡ prepended (v ∷ []) (fit most (drop (suc i) p) (drop d rest)) =
-          rw (drop-cons p i 0 here, eq-eqb _ hash is-hash, e) in
-          let t : take (k + 1) (set n k v) ≡ take k n ++ (v ∷ []) =
-          rw (add-one k) (take-suc-set n k v (omega (arith, room_here, half.wide))) in
-          let r : take (length rest - d) (drop d rest) ≡ drop d rest =
-          take_all (length rest - d) (drop d rest) (omega (arith, length-drop d rest)) in
-          record {
-            wide = rw f (length-set n k v ∙ half.wide);
-            room = rw (g, add-one i) (omega (arith, half.room, left));
-            goes = half.goes ∙ rw (q, f, g, h, t, r, add-one i) (prepended_twice (take k n) (v ∷ []) _);
-          }
+      pub other_word : at_start w rest ≡ false → None ≡ fit most p s
+      other_word e = stops (word_then ∙ rw e)
 
-    module _ (no-hash : get_or p i 0 ≡ hash → ⊥) where
-      pub at_end : length rest ≡ 0 → None ≡ fit most p s
-      unfolding fit
-      at_end e = stops (rw (drop-cons p i 0 here, ne_eqb _ hash no-hash, length_zero rest e))
+      module _ {from : List ℕ} (same : at_start w rest ≡ true) (is : from ≡ drop (length w) rest) where
+        pub no_number : number most from ≡ None → None ≡ fit most p s
+        no_number e = stops (word_then ∙ rw (same, ← is, e))
 
-      module _ {c : ℕ} {after : List ℕ} (read : rest ≡ c ∷ after) where
-        pub other_byte : (c ≡ get_or p i 0 → ⊥) → None ≡ fit most p s
-        unfolding fit
-        other_byte e = stops (rw (drop-cons p i 0 here, ne_eqb _ hash no-hash, read, ne_eqb _ _ e))
-
-        pub same_byte :
-            {n' rest' : List ℕ} {k' : ℕ} → c ≡ get_or p i 0 → n' ≡ n → k' ≡ k → rest' ≡ after
-            → Half N most p s n' k' rest' (i + 1)
-        unfolding fit hashes
-        same_byte e f g h =
-            let q : fit most (drop i p) rest ≡ fit most (drop (suc i) p) after =
-            rw (drop-cons p i 0 here, ne_eqb _ hash no-hash, read, eq-eqb _ _ e) in
-            let l : hashes (drop i p) ≡ hashes (drop (suc i) p) =
-            rw (drop-cons p i 0 here, ne_eqb _ hash no-hash) in
+        pub a_number :
+            (v d : ℕ) → number most from ≡ Some (v, d)
+            → Half N most p s (set n i v) (i + 1) after (take (length from - d) (drop d from))
+        unfolding hashes
+        a_number v d e =
+            let q : fit most form rest ≡ prepended (v ∷ []) (fit most after (drop d from)) = word_then ∙ rw (same, ← is, e) in
+            let t : take (i + 1) (set n i v) ≡ take i n ++ (v ∷ []) =
+            rw (add-one i) (take-suc-set n i v (omega (arith, here, half.wide))) in
+            let k : hashes form ≡ suc (hashes after) = rw cut.parts (hashes_past w (hash ∷ after) cut.lacks) in
             record {
-              wide = rw f half.wide;
-              room = rw (g, add-one i) (omega (arith, half.room, l));
-              goes = half.goes ∙ rw (q, f, g, h, add-one i);
+              wide = length-set n i v ∙ half.wide;
+              room = omega (arith, half.room, k);
+              goes = half.goes ∙ rw (q, t, take_rest from d) (prepended_twice (take i n) (v ∷ []) _);
             }
 
-  module _ (done : length p ≤ i) where
-    pub more_text : (length rest ≡ 0 → ⊥) → None ≡ fit most p s
-    unfolding fit
-    more_text h = go rest h (λ e. stops e)
-      where
-        go : (r : List ℕ) → (length r ≡ 0 → ⊥) → (fit most (drop i p) r ≡ None → None ≡ fit most p s) → None ≡ fit most p s
-        go [] h f = absurd (h refl)
-        go (c ∷ r) h f = f (rw (drop_of_length-le p {i = i} done))
+  module _ (done : N ≤ i) where
+    none_left : Lacks hash form
+    none_left = no_hash form (omega (arith, half.room))
 
-    pub whole : length rest ≡ 0 → Some n ≡ fit most p s
-    unfolding fit hashes
+    pub other_end : pointwise eqb rest form ≡ false → None ≡ fit most p s
+    other_end e = stops (fit_end most form rest none_left ∙ rw e)
+
+    pub whole : pointwise eqb rest form ≡ true → Some n ≡ fit most p s
     whole e =
-        let r : hashes (drop i p) ≡ 0 = rw (drop_of_length-le p {i = i} done) in
-        let t : take k n ≡ n = take_all k n (omega (arith, half.room, half.wide, r)) in
-        sym (half.goes ∙ rw (drop_of_length-le p {i = i} done, length_zero rest e, t, append-nil n))
+        let t : take i n ≡ n = take_all i n (omega (arith, half.room, half.wide)) in
+        sym (half.goes ∙ rw (fit_end most form rest none_left, e, t, append-nil n))
 
 -- what the reader of a pattern needs, but for the step of its loop
-pub ruleset reads_pattern = (start, room_here, no_number, number_length, at_end, other_byte, more_text, whole)
+pub ruleset reads_pattern = (start, hash_left, other_word, no_number, number_length, other_end, whole)

@@ -1,16 +1,16 @@
 -- A run of stores after a run of stores.
-use Rattle.std.specs.Prelude.{Option, Some}
+use Rattle.std.specs.Prelude.{Some}
 use Prim.Native.Nat.{ℕ, suc, ◌+◌, ◌-◌, ◌≤◌}
 use native.Mathlib.Nat.{add-zero}
 use native.Mathlib.Omega.{arith}
-use mathlib.Core.Bool.{Bool, true, false, cond}
+use mathlib.Core.Bool.{Bool, true}
 use mathlib.Core.Path.{◌≡◌, refl, sym, ap, ◌∙◌}
 use mathlib.Core.List.{List, [], ◌∷◌, ◌++◌, append_assoc}
 use lib.ListN.{length, set, take, drop, length-append}
 use lib.Seq.{sets as overwritten, sets-eq, take_at, length-sets, length-take-le}
 use borrow.Rule.Slice.PartMut.{put_mid, Post-is}
 use Rattle.text.specs.declared.page.Page.{Page}
-use Rattle.text.specs.Placing.{Stands, Puts, place_after, HasRoom, Adds}
+use Rattle.text.specs.Placing.{Stands, Puts, HasRoom, Adds}
 
 pub overwritten_append :
     (a b l : List ℕ) (i : ℕ) → overwritten (overwritten l i a) (i + length a) b ≡ overwritten l i (a ++ b)
@@ -61,23 +61,6 @@ pub put_whole :
     {room : Bool} {text out out' : List ℕ} {at r : ℕ} → room ≡ true → Stands text at out r out'
     → Puts room text at out (Some r) out'
 put_whole e h = record { place_is = rw (e, h.end_is); out_is = rw e h.out_is }
-
--- a text that was put fitted, and stands in the buffer
-pub put_stands :
-    {room : Bool} {text out out' : List ℕ} {at r : ℕ} → Puts room text at out (Some r) out' → Stands text at out r out'
-put_stands {room} {text} {out} {out'} {at} {r} h = go room h.place_is h.out_is
-  where
-    go :
-        (b : Bool) → Some r ≡ place_after b at (length text) → out' ≡ cond b (overwritten out at text) out
-        → Stands text at out r out'
-    go true e o = record { end_is = cc; out_is = o }
-    go false e o = let z : ◌≡◌ {A = ℕ} 0 1 = cc in absurd (omega arith)
-
--- for a caller whose buffer has the room
-pub put_some :
-    {room : Bool} {text out out' : List ℕ} {at : ℕ} {r : Option ℕ} → room ≡ true → Puts room text at out r out'
-    → r ≡ Some (at + length text)
-put_some e h = rw e at h.place_is
 
 -- ---- on a page
 pub adds_nothing : {p : Page} {text : List ℕ} → text ≡ [] → Adds text p p

@@ -4,20 +4,24 @@ use Prim.Native.Nat.{ℕ, ◌+◌, ◌*◌, ◌/◌, ◌%◌, ◌^◌, ◌≤◌
 use native.Mathlib.Decide.{dec_le}
 use native.Mathlib.Nat.{zero-add}
 use native.Mathlib.Omega.{arith}
-use mathlib.Core.Bool.{Bool, true, false, true≢false}
-use mathlib.Core.Path.{◌≡◌, refl, sym, ap, ◌∙◌}
+use mathlib.Core.Bool.{Bool, true, false}
+use mathlib.Core.Path.{◌≡◌, refl, sym, ◌∙◌}
 use mathlib.Core.List.{List, [], ◌∷◌}
 use lib.Dec.{lit≤}
 use lib.IntN.{ℤ, pos, negsuc, nat_abs}
 use lib.ListN.{length, get_or, take}
 use lib.Seq.{sets as overwritten, length-sets}
-use lib.Signed.{lt_z, mag}
+use lib.Signed.{mag}
 use mir.Syntax.{w64}
 use mir.Val.{to_z, of_z}
 use mir.Facts.{to_z-of_z}
-use borrow.Author.Tests.{ltb-true, ltb-false, lt-ltb, le-ltb, le-leb, lt-leb}
-use Rattle.book.specs.Sizes.{sets, families, places, all_parts}
-use Rattle.book.specs.Ledger.{marked}
+use borrow.Author.Tests.{ltb-false, lt-ltb, le-ltb, le-leb, lt-leb}
+use Rattle.figuring.specs.Years.{first_year}
+use Rattle.book.specs.Sizes.{sets, families, years, places, all_parts}
+use Rattle.book.specs.Ledger.{cell, marked, place}
+use Rattle.book.specs.Places.{key_of}
+use Rattle.book.specs.declared.places.Place.{Place}
+use Rattle.book.specs.declared.places.Family.{Family}
 use Rattle.book.specs.Soundness.{sound}
 use Rattle.book.specs.Refusals.{Verdict, first_refusal}
 use Rattle.book.specs.Rules.{head_rows}
@@ -28,71 +32,76 @@ use Rattle.text.specs.Gather.{gather}
 use Rattle.text.specs.declared.entries.Entry.{Entry}
 use Rattle.text.specs.declared.page.Page.{Page}
 use Rattle.text.specs.Pattern.{filled}
-use Rattle.text.specs.Placing.{Puts, room_for, HasRoom, Adds}
+use Rattle.text.specs.Placing.{Puts, room_for, HasRoom, Adds, by_sign}
 use Rattle.text.specs.Listing.{entry_room}
-use Rattle.text.specs.Entries.{family_entry, family_at}
+use Rattle.text.specs.Entries.{family_at}
 use Rattle.text.specs.BookText.{family, family_below, lot, short, entry_line, entry_lines, open_form, open_line}
 use Rattle.text.specs.BookText.{book_text, book_room}
 use Rattle.text.specs.Writing.{writing_rows, writing, wrote_by, buffer_by, wrote_of, buffer_after}
-use Rattle.text.specs.Writing.{family_line, mg_text, mg_line}
+use Rattle.text.specs.Writing.{family_if, family_line, mg_line}
 use Rattle.text.proofs.StoreLaws.{adds_text, adds_then, after_adds, at_front}
 use Rattle.text.proofs.BookRoomLaws.{ended, filled_ended, text_is, open_length, families_length, mgs_length}
 
--- ---- the line of a place
-module _ (mark : ℕ) (z : ℤ) (i : ℕ) where
-  pub no_family : marked mark (i % families) ≡ false → entry_lines (family_entry mark z i) ≡ []
+-- ---- the line of a family
+module _ (mark : ℕ) (z : ℤ) (m s n : ℕ) where
+  pub no_family : marked mark n ≡ false → entry_lines (family_if mark m s n z) ≡ []
   unfolding entry_lines
   no_family h = rw h
 
-  module _ (n : ℕ) (h : marked mark (i % families) ≡ true) (e : n ≡ nat_abs z) where
-    abbrev put : List ℕ → List ℕ
-    put p = filled p (i / families / sets ∷ i / families % sets ∷ i % families ∷ n ∷ [])
+  module _ (h : marked mark n ≡ true) where
+    abbrev put : List ℕ → ℕ → List ℕ
+    put p k = filled p (m ∷ s ∷ n ∷ k ∷ [])
 
-    abbrev entry : ℤ → Entry
-    entry z = Entry.Family (i / families / sets) (i / families % sets) (i % families) z
-
-    one_family : ended (entry_line (entry z)) ≡ entry_lines (family_entry mark z i)
+    one_family : ended (entry_line (Entry.Family m s n z)) ≡ entry_lines (family_if mark m s n z)
     unfolding entry_lines
     one_family = rw h
 
-    pub family_below_lem : lt_z z (pos 0) ≡ true → put (ended family_below.pattern) ≡ entry_lines (family_entry mark z i)
-    family_below_lem l =
-        filled_ended family_below.pattern _ ∙ go z e l ∙ one_family
+    -- its pattern is that of the part's sign; x is the part as the code reads it
+    pub family_text :
+        {x : ℤ} {k : ℕ} → x ≡ z → k ≡ nat_abs x
+        → put (by_sign x (ended family_below.pattern) (ended family.pattern)) k ≡ entry_lines (family_if mark m s n z)
+    family_text {x} e f = rw (f, e) (go z) ∙ one_family
       where
         go :
-            (z : ℤ) → n ≡ nat_abs z → lt_z z (pos 0) ≡ true
-            → ended (filled family_below.pattern (i / families / sets ∷ i / families % sets ∷ i % families ∷ n ∷ []))
-            ≡ ended (entry_line (entry z))
-        go (pos k) e l = absurd (omega (arith, ltb-true k 0 l))
-        go (negsuc k) e l = rw e
+            (z : ℤ) → put (by_sign z (ended family_below.pattern) (ended family.pattern)) (nat_abs z)
+            ≡ ended (entry_line (Entry.Family m s n z))
+        go (pos k) = filled_ended family.pattern _
+        go (negsuc k) = filled_ended family_below.pattern _
 
-    pub family_above : lt_z z (pos 0) ≡ false → put (ended family.pattern) ≡ entry_lines (family_entry mark z i)
-    family_above l =
-        filled_ended family.pattern _ ∙ go z e l ∙ one_family
-      where
-        go :
-            (z : ℤ) → n ≡ nat_abs z → lt_z z (pos 0) ≡ false
-            → ended (filled family.pattern (i / families / sets ∷ i / families % sets ∷ i % families ∷ n ∷ []))
-            ≡ ended (entry_line (entry z))
-        go (pos k) e l = rw e
-        go (negsuc k) e l = absurd (true≢false l)
+-- ---- as a loop hears of it: of the family, or the place, that stands at i
+module _ (marks : List ℕ) (parts : List ℤ) (i : ℕ) (f : Family) where
+  pub family_adds :
+      {a b : Page} → cell f.cell.maker f.cell.set * families + f.number ≡ i
+      → mag (get_or parts i (pos 0)) < 2 ^ 63
+      → Adds
+      (entry_lines (family_if (get_or marks (cell f.cell.maker f.cell.set) 0) f.cell.maker f.cell.set f.number (to_z w64 (of_z w64 (get_or parts i (pos 0))))))
+      a b
+      → Adds (family_line marks parts i) a b
+  unfolding family_line family_at
+  family_adds e g h =
+      let c : i / families ≡ cell f.cell.maker f.cell.set = omega (arith, f.number_in) in
+      let k : i % families ≡ f.number = omega (arith, f.number_in) in
+      let q : cell f.cell.maker f.cell.set / sets ≡ f.cell.maker = omega (arith, f.cell.set_in) in
+      let r : cell f.cell.maker f.cell.set % sets ≡ f.cell.set = omega (arith, f.cell.set_in) in
+      let p : to_z w64 (of_z w64 (get_or parts i (pos 0))) ≡ get_or parts i (pos 0) =
+      to_z-of_z {w = w64} (record { sfits = g }) in
+      rw (c, k, q, r) (rw p at h)
 
--- ---- as a loop hears of it
-pub family_adds :
-    (marks : List ℕ) (parts : List ℤ) (i : ℕ) {a b : Page}
-    → mag (get_or parts i (pos 0)) < 2 ^ 63
-    → Adds (entry_lines (family_entry (get_or marks (i / families) 0) (to_z w64 (of_z w64 (get_or parts i (pos 0)))) i)) a b
-    → Adds (family_line marks parts i) a b
-unfolding family_line family_at
-family_adds marks parts i g h =
-    adds_text
-    (ap (λ (z : ℤ). entry_lines (family_entry (get_or marks (i / families) 0) z i)) (to_z-of_z {w = w64} (record { sfits = g })))
-    h
+module _ (p l : List ℕ) (i : ℕ) where
+  pub no_mg : get_or l i 0 ≤ 0 → mg_line p l i ≡ []
+  unfolding mg_line
+  no_mg h = rw (le-ltb 0 (get_or l i 0) h)
 
-pub mg_adds :
-    (p l : List ℕ) (i : ℕ) {a b : Page} → Adds (mg_text p (get_or l i 0) i) a b → Adds (mg_line p l i) a b
-unfolding mg_line
-mg_adds p l i h = h
+  pub mg_adds :
+      (at : Place) {a b : Page} → place (key_of at) ≡ i → 0 < get_or l i 0
+      → Adds (filled p (at.cell.maker ∷ at.cell.set ∷ at.year ∷ get_or l i 0 ∷ [])) a b → Adds (mg_line p l i) a b
+  unfolding mg_line
+  mg_adds at e g h =
+      let c : i / years ≡ cell at.cell.maker at.cell.set = omega (arith, at.cell.set_in, at.from, at.upto) in
+      let y : first_year + i % years ≡ at.year = omega (arith, at.from, at.upto) in
+      let q : cell at.cell.maker at.cell.set / sets ≡ at.cell.maker = omega (arith, at.cell.set_in) in
+      let r : cell at.cell.maker at.cell.set % sets ≡ at.cell.set = omega (arith, at.cell.set_in) in
+      rw (lt-ltb 0 (get_or l i 0) g, c, y, q, r) h
 
 -- ---- the groups, one after the other
 pub open_adds :

@@ -32,7 +32,7 @@ entry_by f n = only_if (leb f.least (figure n 3)) (Some (f.entry n))
 abbrev pub entry_in : EntryForm → List ℕ → Option Entry
 entry_in f s = option_and_then (λ n. entry_by f n) (fit book_digits f.pattern s)
 
--- by the first of some forms by which it is one; no line fits two of them
+-- by the first of some forms by which it is one; no line fits two of them (OneForm)
 abbrev pub first_entry : List EntryForm → List ℕ → Option Entry
 first_entry [] s = None
 first_entry (f ∷ fs) s = option_or (entry_in f s) (first_entry fs s)

@@ -19,6 +19,7 @@ pub mod EachEntry
 pub mod BookText
 pub mod Writing
 pub mod BookReading
+pub mod OneForm
 pub mod EntryReading
 pub mod RoundTrip
 pub mod Program

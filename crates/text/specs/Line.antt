@@ -1,6 +1,8 @@
 -- Document 01, "Terminal text": which line is which call.
-use Rattle.std.specs.Prelude.{ℕ, Bool, true, false, cond, List, [], ◌∷◌, ◌++◌, ltb, length, get_or, drop, Option, None, option_map}
+use Rattle.std.specs.Prelude.{ℕ, Bool, true, false, cond, List, [], ◌∷◌, ◌++◌, ltb, length, drop, Option, None, option_map}
 use Rattle.std.specs.Option.{option_or}
+pub use Rattle.book.specs.Calls.{figure}
+use Rattle.book.specs.Calls.{filing_of, trade_of, application_of, retirement_of}
 use Rattle.book.specs.declared.kinds.Call.{Call}
 use Rattle.text.specs.Ascii.{ascii}
 use Rattle.text.specs.Pattern.{fit}
@@ -18,29 +20,13 @@ pub record Form : Type 0 where
   pub pattern : List ℕ
   pub call : List ℕ → Call
 
-abbrev pub figure : List ℕ → ℕ → ℕ
-figure n i = get_or n i 0
-
 -- a filing's fields
 abbrev pub filing_fields : List ℕ
 filing_fields =
     ascii "(maker #) (set #) (year #) (use #) (edition #) (family #) (fcl #) (cf #) (volume #) (life #)"
 
 abbrev pub filing_call : Bool → List ℕ → Call
-filing_call amends n =
-    Call.File (record {
-      amends = amends;
-      maker = figure n 0;
-      set = figure n 1;
-      year = figure n 2;
-      vehicle_use = figure n 3;
-      edition = figure n 4;
-      family = figure n 5;
-      fcl = figure n 6;
-      cf = figure n 7;
-      volume = figure n 8;
-      life = figure n 9;
-    })
+filing_call amends n = Call.File (filing_of amends n)
 
 abbrev pub file : Form
 file = record { pattern = ascii "(file " ++ filing_fields ++ ascii ")"; call = filing_call false }
@@ -56,36 +42,21 @@ abbrev pub trade : Form
 trade =
     record {
       pattern = ascii "(trade (from #) (to #) (set #) (vintage #) (mg #))";
-      call =
-          λ n. Call.Trade (record {
-            from = figure n 0;
-            to = figure n 1;
-            set = figure n 2;
-            vintage = figure n 3;
-            mg = figure n 4;
-          });
+      call = λ n. Call.Trade (trade_of n);
     }
 
 abbrev pub apply : Form
 apply =
     record {
       pattern = ascii "(apply (maker #) (set #) (vintage #) (year #) (mg #))";
-      call =
-          λ n. Call.Apply (record {
-            maker = figure n 0;
-            set = figure n 1;
-            vintage = figure n 2;
-            year = figure n 3;
-            mg = figure n 4;
-          });
+      call = λ n. Call.Apply (application_of n);
     }
 
 abbrev pub retire : Form
 retire =
     record {
       pattern = ascii "(retire (maker #) (set #) (vintage #) (mg #))";
-      call =
-          λ n. Call.Retire (record { maker = figure n 0; set = figure n 1; vintage = figure n 2; mg = figure n 3 });
+      call = λ n. Call.Retire (retirement_of n);
     }
 
 -- the forms, in the order in which they are tried

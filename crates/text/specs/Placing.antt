@@ -1,5 +1,5 @@
 -- A text put into a lent buffer from a place on. Where the room is too short nothing is put, and the answer says so.
-use Rattle.std.specs.Prelude.{ℕ, ◌+◌, ◌≤◌, Bool, cond, ◌≡◌, List, leb, length, Option, Some, None}
+use Rattle.std.specs.Prelude.{ℕ, ◌+◌, ◌≤◌, Bool, cond, ◌≡◌, List, leb, length, ℤ, pos, negsuc, Option, Some, None}
 use Rattle.std.proofs.lemmas.List.Edits.{sets as overwritten}
 use Rattle.text.specs.declared.page.Page.{Page}
 
@@ -30,3 +30,8 @@ HasRoom n p = p.at + n ≤ length p.out.now
 pub record Adds (text : List ℕ) (p q : Page) : Type 0 where
   pub same_buffer : q.out.ghost_name ≡ p.out.ghost_name
   pub stands : Stands text p.at p.out.now q.at q.out.now
+
+-- of two patterns, the first with a minus that the other lacks: the one for a number of this sign
+abbrev pub by_sign : ℤ → List ℕ → List ℕ → List ℕ
+by_sign (pos n) below other = other
+by_sign (negsuc n) below other = below

@@ -3,6 +3,7 @@ use Rattle.std.specs.Prelude.{ℕ, ◌+◌, ◌/◌, ◌%◌, Bool, cond, List, 
 use Rattle.std.proofs.lemmas.List.Edits.{sets as overwritten}
 use Rattle.figuring.specs.Years.{first_year}
 use Rattle.book.specs.Sizes.{sets, years}
+use Rattle.book.specs.Ledger.{marked}
 use Rattle.book.specs.Soundness.{sound}
 use Rattle.book.specs.Refusals.{Verdict, Row, ◌⇒◌, first_refusal}
 use Rattle.book.specs.Rules.{head_rows}
@@ -10,7 +11,8 @@ use Rattle.book.specs.declared.ledger.Book.{Book}
 use Rattle.book.specs.declared.answers.Refusal.{Refusal}
 use Rattle.book.specs.declared.answers.Refusal.TheVariants.{ShortBuffer}
 use Rattle.text.specs.Pattern.{filled}
-use Rattle.text.specs.Entries.{family_at}
+use Rattle.text.specs.declared.entries.Entry.{Entry}
+use Rattle.text.specs.Entries.{entry_if, family_at}
 use Rattle.text.specs.BookText.{entry_lines, book_text}
 
 -- the refusals, over whether the book is sound, the text's length and the buffer's: "21, the lent buffer is shorter than
@@ -43,11 +45,13 @@ buffer_after b out = buffer_by (writing b out) (book_text b) out
 unfoldable pub family_line : List ℕ → List ℤ → ℕ → List ℕ
 family_line marks parts i = entry_lines (family_at marks parts i)
 
--- of the lots or the shortages, by the pattern of their lines, line feed and all
-abbrev pub mg_text : List ℕ → ℕ → ℕ → List ℕ
-mg_text p mg i =
-    let c = i / years in
-    cond (ltb 0 mg) (filled p (c / sets ∷ c % sets ∷ (first_year + i % years) ∷ mg ∷ [])) []
+-- of a maker, a set and a family's number
+abbrev pub family_if : ℕ → ℕ → ℕ → ℕ → ℤ → List Entry
+family_if mark m s n part = entry_if (marked mark n) (Entry.Family m s n part)
 
+-- of the lots or the shortages, by the pattern of their lines, line feed and all
 unfoldable pub mg_line : List ℕ → List ℕ → ℕ → List ℕ
-mg_line p figures i = mg_text p (get_or figures i 0) i
+mg_line p figures i =
+    let c = i / years in
+    let mg = get_or figures i 0 in
+    cond (ltb 0 mg) (filled p (c / sets ∷ c % sets ∷ (first_year + i % years) ∷ mg ∷ [])) []

@@ -1,5 +1,6 @@
 // A line answered with a book and a table of standards, and an answer as text.
 ghost use Rattle.std.specs.Prelude.{◌≡◌, length};
+ghost use Rattle.book.specs.Rules.{answered};
 ghost use Rattle.book.specs.declared.answers.Answer.{Answer};
 ghost use Rattle.text.specs.Answers.{answer_room, answer_to, posted_line, text_of};
 ghost use Rattle.text.specs.Placing.{Adds, HasRoom, Puts, room_for};
@@ -28,8 +29,7 @@ pub fn answer_line(book: Book, table: Table, line: &[u8]) -> Posted
 
 // A line that has been read, answered in place. A line that is no form leaves the book untouched.
 pub fn line_in(book: &mut Book, table: Table, line: Option<Call>) -> Result<Answer, Refusal>
-    ensures { (result ≡ (posted_line table book.old line).answer)
-        × (book.new ≡ (posted_line table book.old line).book) }
+    ensures { answered result book.new ≡ posted_line table book.old line }
 {
     match line {
         Some(call) => post_in(book, table, call),
@@ -37,18 +37,18 @@ pub fn line_in(book: &mut Book, table: Table, line: Option<Call>) -> Result<Answ
     }
 }
 
-// Puts the answer to a filing: its part, a negative one with its minus, and its count.
+// Puts the answer to a filing: its part, and its count.
 #[tactic(auto, using(crate::proofs::FillLaws::filled_length), unfolding(crate::specs::Pattern::hashes))]
 fn put_filed(page: &mut Page, part: i64, k: u64)
     requires { HasRoom answer_room page.old }
     ensures { Adds (text_of (Ok (Answer.Filed (record { 0 = part }) k))) page.old page.new }
 {
-    let mg = part.unsigned_abs();
-    if part < 0 {
-        page.fill(b"(ok -# #)\n", &[mg, k]);
-    } else {
-        page.fill(b"(ok # #)\n", &[mg, k]);
-    }
+    page.fill_by_sign(
+        part,
+        b"(ok -# #)\n",
+        b"(ok # #)\n",
+        &[part.unsigned_abs(), k],
+    );
 }
 
 // Puts an answer's line on a page with the room.
@@ -65,8 +65,8 @@ pub(crate) fn write_answer(page: &mut Page, answer: Result<Answer, Refusal>)
     }
 }
 
-// Puts an answer's line into any buffer from any place on, and gives the place after it. Where it does not fit there is
-// none, and out is as it was.
+// Puts an answer's line into any buffer from any place on, and gives the place after it, from which a caller may put the
+// next. Where it does not fit there is none, and out is as it was.
 pub fn put_answer(out: &mut [u8], at: usize, answer: Result<Answer, Refusal>) -> Option<usize>
     ensures { Puts (room_for (length (text_of answer)) at out.old) (text_of answer) at
         out.old result out.new }

@@ -1,6 +1,6 @@
 // The claims of the text layer, each a function whose contract is the statement of specs/ for all its arguments. A
 // theorem that goes missing, or is proved of less, leaves its function here unproved, so the gate holds it.
-ghost use Rattle.std.specs.Prelude.{true, ◌≡◌};
+ghost use Rattle.std.specs.Prelude.{true, ◌≡◌, Ok};
 ghost use Rattle.text.specs.Answers.{ByText};
 ghost use Rattle.text.specs.BookExamples.{BookEdges};
 ghost use Rattle.text.specs.BookOrder.{RankOrders};
@@ -8,6 +8,7 @@ ghost use Rattle.text.specs.EachEntry.{EachEntry};
 ghost use Rattle.text.specs.Desk.{ByWhatIsHeld};
 ghost use Rattle.text.specs.Examples.{Edges, Fields, Run};
 ghost use Rattle.text.specs.Lines.{Lines};
+ghost use Rattle.text.specs.OneForm.{OneForm};
 ghost use Rattle.text.specs.Program.{AnyChunks};
 ghost use Rattle.text.specs.Rendered.{CanBeTyped, Reads};
 ghost use Rattle.text.specs.RoundTrip.{Exact, Room, RoundTrip};
@@ -15,6 +16,9 @@ ghost use Rattle.text.specs.TableText.{TableTexts};
 ghost use Rattle.figuring.specs.Tables.{Table};
 ghost use Rattle.book.specs.declared.ledger.Book.{Book};
 ghost use Rattle.book.specs.declared.kinds.Filing.{Filing};
+
+use crate::desk::Desk;
+use std::alloc::AllocError;
 
 // A line is read as a call exactly where it is that call's text, of at most 160 bytes and with figures of at most 12
 // digits; any other line is no form.
@@ -91,6 +95,13 @@ pub fn books_by_their_text() -> bool
     true
 }
 
+// No line fits two of the forms of an entry: its entry is by the one that it fits, whichever is tried first.
+pub fn entries_by_one_form() -> bool
+    ensures { (result ≡ true) × OneForm }
+{
+    true
+}
+
 // The lines of a book's text are those of its filed families, its lots and its shortages above 0, in the order of the
 // card's groups, each rising by its first three figures; and so does the rank by which the reader compares them.
 pub fn lines_in_order() -> bool
@@ -112,4 +123,11 @@ pub fn edges_of_a_book() -> bool
     ensures { (result ≡ true) × BookEdges }
 {
     true
+}
+
+// A copy of a desk is the same desk, and copying never fails.
+pub fn copies_are_same(desk: &Desk) -> Result<Desk, AllocError>
+    ensures { result ≡ Ok desk.now }
+{
+    desk.clone()
 }

@@ -1,6 +1,6 @@
 // The input to its lines: a desk takes any chunk of bytes, and answers each line that ends in it. The table of standards
 // is one for the whole run; a desk does not hold it, so each call is handed it.
-ghost use Rattle.std.specs.Prelude.{⊤, ◌≡◌, ◌*◌, ◌/◌, leb, length};
+ghost use Rattle.std.specs.Prelude.{◌≡◌, ◌*◌, ◌/◌, leb, length};
 ghost use Rattle.text.specs.Answers.{answer_room, posted_line, text_of};
 ghost use Rattle.text.specs.Desk.{RepliedBy, ServedBy, at_desk, ends, open_desk, takes_all};
 ghost use Rattle.text.specs.Placing.{Adds, HasRoom};
@@ -11,28 +11,14 @@ use crate::page::Page;
 use book::kinds::Call;
 use book::ledger::Book;
 use figuring::tables::Table;
-use std::alloc::AllocError;
 
 // The book, which each call is posted to in place, and what is held of a line that has not ended yet. Two desks are
-// compared by what they hold: `ByWhatIsHeld`.
-#[derive(Drop)]
+// compared by what they hold: `ByWhatIsHeld`. A caller may keep a desk as it stands, and go on from it later: a copy is
+// the same desk, and never fails (`copies_are_same`).
+#[derive(Clone, Drop)]
 pub struct Desk {
     pub book: Book,
     held: Held,
-}
-
-// A caller may keep a desk as it stands, and go on from it later.
-impl Clone for Desk {
-    ghost is_clone = { λ x y. y ≡ x };
-
-    ghost is_infallible = { λ _. ⊤ };
-
-    fn clone(&self) -> Result<Desk, AllocError> {
-        Ok(Desk {
-            book: self.book,
-            held: self.held.clone()?,
-        })
-    }
 }
 
 impl Desk {
@@ -47,7 +33,8 @@ impl Desk {
     }
 
     // The next bytes of the input: each line that ends in them is answered, with the table, and the book that the one
-    // before left. Gives how many bytes of answers stand at out's start. out has room if it has ANSWER_ROOM bytes for each
+    // before left. Gives how many bytes of answers stand at out's start, a
+    // count as std's `read` gives. out has room if it has ANSWER_ROOM bytes for each
     // byte of the chunk; if not, nothing is done.
     pub fn take_in(&mut self, table: Table, chunk: &[u8], out: &mut [u8]) -> Option<usize>
         ensures { RepliedBy (leb (length chunk.now) (length out.old / answer_room)) self.old

@@ -4,16 +4,12 @@ ghost use Rattle.std.specs.Prelude.{◌≡◌, ◌<◌, true, Some, IfSome};
 ghost use Rattle.text.specs.BookReading.{only_if};
 ghost use Rattle.text.specs.Entries.{all_entries, enter, in_book, rank};
 
-use book::ledger::Book;
-use book::places::{Family, Place};
+use book::ledger::{Book, PARTS, PLACES};
+use book::places::{Cell, Family, Place};
+use figuring::units::Part;
 
-// How many parts, and how many lots or shortages, a book has: the families rank first, then the lots.
-pub(crate) const PARTS: u64 = 2_048;
-
-pub(crate) const PLACES: u64 = 768;
-
-// Its figures are plain numbers, as in the book's arrays, in the order of the card's line. They stay bare: a struct of the
-// first three would be made of a line's array only to be taken apart where they are stored.
+// Its figures are plain numbers, in the order of the card's line. They stay bare, and not a family or a place: an entry may
+// name a maker, a set, a number or a year that is not the book's, and whether it does is asked of it by 22.
 #[derive(Clone, Copy)]
 pub enum Entry {
     // Maker, set, number, part.
@@ -23,7 +19,8 @@ pub enum Entry {
     Shortage(u64, u64, u64, u64),
 }
 
-// Where an entry ranks; nowhere where its maker, set, and number or year are not the book's.
+// Where an entry ranks, the families before the lots, and these before the shortages; nowhere where its maker, set, and
+// number or year are not the book's.
 #[tactic(auto, unfolding(crate::specs::Entries::rank, crate::specs::Entries::in_book))]
 pub(crate) fn rank_of(e: Entry) -> Option<u64>
     ensures rank { result ≡ only_if (in_book e) (Some (rank e)) }
@@ -34,10 +31,10 @@ pub(crate) fn rank_of(e: Entry) -> Option<u64>
             Family::of(maker, set, number)?.index() as u64,
         ),
         Entry::Lot(maker, set, year, _) => Some(
-            PARTS + Place::of(maker, set, year)?.index() as u64,
+            (PARTS + Place::of(maker, set, year)?.index()) as u64,
         ),
         Entry::Shortage(maker, set, year, _) => {
-            Some(PARTS + PLACES + Place::of(maker, set, year)?.index() as u64)
+            Some((PARTS + PLACES + Place::of(maker, set, year)?.index()) as u64)
         }
     }
 }
@@ -49,16 +46,19 @@ pub(crate) fn store_entry(book: &mut Book, e: Entry)
 {
     match e {
         Entry::Family(maker, set, number, part) => {
-            let family = Family { maker, set, number };
-            let cell = family.cell();
-            book.marks[cell] = family.marked_in(book.marks[cell]);
-            book.parts[family.index()] = part;
+            let cell = Cell { maker, set };
+            let family = Family { cell, number };
+            book.store(family, Part(part));
         }
         Entry::Lot(maker, set, year, mg) => {
-            book.lots[Place { maker, set, year }.index()] = mg;
+            let cell = Cell { maker, set };
+            let place = Place { cell, year };
+            book.lots[place.index()] = mg;
         }
         Entry::Shortage(maker, set, year, mg) => {
-            book.shortages[Place { maker, set, year }.index()] = mg;
+            let cell = Cell { maker, set };
+            let place = Place { cell, year };
+            book.shortages[place.index()] = mg;
         }
     }
 }

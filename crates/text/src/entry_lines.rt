@@ -3,36 +3,19 @@
 
 ghost use Rattle.std.specs.Prelude.{◌≡◌};
 ghost use Rattle.text.specs.BookText.{family, family_below, lot, short};
-ghost use Rattle.text.specs.BookReading.{entry_in, entry_of};
-ghost use Rattle.text.specs.EntryReading.{next_entry};
+ghost use Rattle.text.specs.BookReading.{book_digits, entry_in, entry_of};
+ghost use Rattle.text.specs.EntryReading.{above_0};
+ghost use Rattle.text.specs.Pattern.{fit, hashes};
 
 use crate::entries::Entry;
-use crate::first_line::line_end;
 use crate::patterns::fitted;
 
 // "Numbers are as before but of up to 18 digits".
 pub(crate) const BOOK_DIGITS: usize = 18;
 
-// The entry of the line that begins at a place, and where the next line begins, for any bytes and any place; none of a
-// line that lacks its line feed.
-#[tactic(auto, using(crate::proofs::ReadingLaws::reads_entry))]
-pub(crate) fn entry_at(text: &[u8], at: usize) -> Option<(Entry, usize)>
-    ensures { result ≡ next_entry text.now at }
-{
-    if text.len() < at {
-        return None;
-    }
-    let end = line_end(text, at);
-    if end == text.len() {
-        return None;
-    }
-    let entry = entry_of(&text[at..end])?;
-    Some((entry, end + 1))
-}
-
 // The entry of a line, by the first form that it fits.
 #[tactic(auto, unfolding(crate::specs::BookReading::entry_of))]
-fn entry_of(line: &[u8]) -> Option<Entry>
+pub(crate) fn entry_of(line: &[u8]) -> Option<Entry>
     ensures { result ≡ entry_of line.now }
 {
     family(line)
@@ -49,36 +32,34 @@ fn family(line: &[u8]) -> Option<Entry>
     Some(Entry::Family(maker, set, number, part as i64))
 }
 
-// A part below 0: -0 is none.
-#[tactic(auto, unfolding(crate::specs::Pattern::hashes), using(crate::proofs::ReadingLaws::reads_family))]
+// What a part below 0, a lot and a shortage share is `above_0`: one function for the three would be handed the pattern, and
+// a closure for what each makes of its figures.
+#[tactic(auto, unfolding(crate::specs::Pattern::hashes), using(crate::proofs::ReadingLaws::reads_below))]
 fn family_below(line: &[u8]) -> Option<Entry>
     ensures { result ≡ entry_in family_below line.now }
 {
-    let [maker, set, number, size] = fitted::<4>(b"(family # # # -#)", line, BOOK_DIGITS)?;
-    if size == 0 {
-        return None;
-    }
+    let [maker, set, number, size] = above_0(b"(family # # # -#)", line)?;
     Some(Entry::Family(maker, set, number, -(size as i64)))
 }
 
-// A lot and a shortage stay two functions: they differ in the pattern and in the variant that they make, so that one for
-// both would be handed both.
 fn lot(line: &[u8]) -> Option<Entry>
     ensures { result ≡ entry_in lot line.now }
 {
-    let [maker, set, year, mg] = fitted::<4>(b"(lot # # # #)", line, BOOK_DIGITS)?;
-    if mg == 0 {
-        return None;
-    }
+    let [maker, set, year, mg] = above_0(b"(lot # # # #)", line)?;
     Some(Entry::Lot(maker, set, year, mg))
 }
 
 fn short(line: &[u8]) -> Option<Entry>
     ensures { result ≡ entry_in short line.now }
 {
-    let [maker, set, year, mg] = fitted::<4>(b"(short # # # #)", line, BOOK_DIGITS)?;
-    if mg == 0 {
-        return None;
-    }
+    let [maker, set, year, mg] = above_0(b"(short # # # #)", line)?;
     Some(Entry::Shortage(maker, set, year, mg))
+}
+
+// The figures of a line by a pattern of four, if the fourth is not 0: -0 and 0 Mg are malformed.
+fn above_0(pattern: &[u8], line: &[u8]) -> Option<[u64; 4]>
+    requires { hashes pattern.now ≡ 4 }
+    ensures { result ≡ above_0 (fit book_digits pattern.now line.now) }
+{
+    fitted::<4>(pattern, line, BOOK_DIGITS).filter(|n| n[3] != 0)
 }

@@ -1,26 +1,18 @@
-// Where the lines of a lent text end.
-ghost use Rattle.std.specs.Prelude.{◌≡◌, ◌+◌, ◌≤◌, min, length};
-ghost use Rattle.text.specs.FirstLine.{first_line, line_end};
+// A lent text at the first place of a byte, and by its first line.
+ghost use Rattle.std.specs.Prelude.{◌≡◌, MatchOption};
+ghost use Rattle.text.specs.FirstLine.{Lacks, Parted, first_line, after_line};
 
-// Where the line that begins at a place ends: at its line feed, or at the end of the text.
-#[tactic(auto, using(crate::proofs::FirstLineLaws::ends_at))]
-pub(crate) fn line_end(text: &[u8], at: usize) -> usize
-    requires { at ≤ length text.now }
-    ensures { (result ≡ line_end text.now at) × (result ≤ length text.now) }
+// What stands before the first such byte, and what behind it, as std says it of a str; none of a text that lacks it.
+pub(crate) fn split_once(text: &[u8], byte: u8) -> Option<(&[u8], &[u8])>
+    ensures { MatchOption result (Lacks byte text.now) (λ r. Parted byte text.now r.0.now r.1.now) }
 {
-    at + line_len(&text[at..])
+    let n = text.iter().position(|b| *b == byte)?;
+    Some((&text[..n], &text[n + 1..]))
 }
 
-// How long the line is that a text begins with.
-fn line_len(text: &[u8]) -> usize
-    ensures { result ≡ length (first_line text.now) }
+// The first line, and what follows its line feed: nothing, where it is the last and lacks it.
+pub(crate) fn split_line(text: &[u8]) -> (&[u8], &[u8])
+    ensures { (result.0.now ≡ first_line text.now) × (result.1.now ≡ after_line text.now) }
 {
-    text.iter().take_while(|b| **b != b'\n').count()
-}
-
-// Where the next line begins.
-pub(crate) fn line_after(end: usize, len: usize) -> usize
-    ensures { result ≡ min (end + 1) len }
-{
-    end.saturating_add(1).min(len)
+    split_once(text, b'\n').unwrap_or((text, &[]))
 }

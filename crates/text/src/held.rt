@@ -1,47 +1,32 @@
 // A line of the input as its bytes come, until it ends.
-ghost use Rattle.std.specs.Prelude.{⊤, ◌≡◌, [], eqb, length};
+ghost use Rattle.std.specs.Prelude.{◌≡◌, [], eqb, length, fold};
 ghost use Rattle.text.specs.Line.{line_of};
 ghost use Rattle.text.specs.Desk.{held_with};
 ghost use Rattle.text.specs.Serving.{NextLine};
 
+use crate::first_line::split_once;
 use crate::lines::LONGEST_LINE;
 use crate::reader::read_line;
+use arrayvec::ArrayVec;
 use book::kinds::Call;
-use std::alloc::AllocError;
+use std::io::Write;
 use std::marker::Model;
 
 // A line is held up to this many bytes, one more than the longest form has: they stand for any longer line.
 const MOST_HELD: usize = LONGEST_LINE + 1;
 
-// What is held of a line that has not ended yet: the first len bytes. A contract sees them alone, as a list, so what lies
-// past them shows nowhere. The kit's `ArrayVec` would blank all its bytes at each line's end.
-#[derive(Drop)]
+// What is held of a line that has not ended yet. A contract sees it as the list of those bytes.
+#[derive(Clone, Drop)]
 pub(crate) struct Held {
-    bytes: [u8; MOST_HELD],
-    len: usize,
+    bytes: ArrayVec<u8, MOST_HELD>,
 }
 
 impl Model for Held {
-    ghost use Rattle.std.specs.Prelude.{ℕ, ◌≤◌, List, take};
+    ghost use Rattle.std.specs.Prelude.{ℕ, List};
 
     ghost Value = { List ℕ };
 
-    ghost view = { λ h. take h.len h.bytes };
-
-    ghost invariant = { λ h. h.len ≤ 161 };
-}
-
-impl Clone for Held {
-    ghost is_clone = { λ x y. y ≡ x };
-
-    ghost is_infallible = { λ _. ⊤ };
-
-    fn clone(&self) -> Result<Held, AllocError> {
-        Ok(Held {
-            bytes: self.bytes,
-            len: self.len,
-        })
-    }
+    ghost view = { λ h. h.bytes.items };
 }
 
 impl Held {
@@ -49,33 +34,30 @@ impl Held {
         ensures { result ≡ [] }
     {
         Held {
-            bytes: [0; MOST_HELD],
-            len: 0,
+            bytes: ArrayVec::new(),
         }
     }
 
     pub(crate) fn is_empty(&self) -> bool
         ensures { result ≡ eqb (length self.now) 0 }
     {
-        self.len == 0
+        self.bytes.is_empty()
     }
 
-    // One more byte of the line.
-    fn push(&mut self, b: u8)
-        ensures { self.new ≡ held_with self.old b }
+    // The next bytes of the line, as many as there is room for: `write` appends those that fit, and never fails.
+    #[tactic(auto, using(crate::proofs::HeldLaws::held_written))]
+    fn hold(&mut self, more: &[u8])
+        ensures { self.new ≡ fold held_with self.old more.now }
     {
-        if self.len < MOST_HELD {
-            self.bytes[self.len] = b;
-            self.len += 1;
-        }
+        let _ = self.bytes.write(more);
     }
 
     // The end of the line: what it is read as. Of the next one nothing is held yet.
     pub(crate) fn end_line(&mut self) -> Option<Call>
         ensures { (result ≡ line_of self.old) × (self.new ≡ []) }
     {
-        let line = read_line(&self.bytes[..self.len]);
-        self.len = 0;
+        let line = read_line(self.bytes.as_slice());
+        self.bytes.clear();
         line
     }
 
@@ -84,14 +66,11 @@ impl Held {
     pub(crate) fn next_line<'a>(&mut self, chunk: &'a [u8]) -> Option<(Option<Call>, &'a [u8])>
         ensures { NextLine self.old chunk.now result self.new }
     {
-        let mut left = chunk;
-        while let [b, rest @ ..] = left {
-            left = rest;
-            if *b == b'\n' {
-                return Some((self.end_line(), left));
-            }
-            self.push(*b);
-        }
-        None
+        let Some((line, rest)) = split_once(chunk, b'\n') else {
+            self.hold(chunk);
+            return None;
+        };
+        self.hold(line);
+        Some((self.end_line(), rest))
     }
 }

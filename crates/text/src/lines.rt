@@ -2,6 +2,7 @@
 #![tactic(auto, unfolding(crate::specs::Pattern::hashes))]
 
 ghost use Rattle.std.specs.Prelude.{◌≡◌, option_map};
+ghost use Rattle.book.specs.declared.kinds.Call.{Call};
 ghost use Rattle.text.specs.Pattern.{fit, hashes};
 ghost use Rattle.text.specs.Line.{file, amend, close, trade, apply, retire, forms, filing_call, most_digits, call_in, first_form, line_at};
 
@@ -60,33 +61,12 @@ fn filing(amends: bool, pattern: &[u8], line: &[u8]) -> Option<Call>
     requires { hashes pattern.now ≡ 10 }
     ensures { result ≡ option_map (filing_call amends) (fit most_digits pattern.now line.now) }
 {
-    let [
-        maker,
-        set,
-        year,
-        vehicle_use,
-        edition,
-        family,
-        fcl,
-        cf,
-        volume,
-        life,
-    ] = fitted::<10>(pattern, line, MOST_DIGITS)?;
-    Some(Call::File(Filing {
-        amends,
-        maker,
-        set,
-        year,
-        vehicle_use,
-        edition,
-        family,
-        fcl,
-        cf,
-        volume,
-        life,
-    }))
+    let figures = fitted::<10>(pattern, line, MOST_DIGITS)?;
+    Some(Call::File(Filing::of(amends, figures)))
 }
 
+// A form is its pattern and the call of its figures, two lines: one function for these would be handed the pattern, the type
+// and the variant.
 fn close(line: &[u8]) -> Option<Call>
     ensures { result ≡ call_in close line.now }
 {
@@ -97,49 +77,32 @@ fn close(line: &[u8]) -> Option<Call>
 fn trade(line: &[u8]) -> Option<Call>
     ensures { result ≡ call_in trade line.now }
 {
-    let [from, to, set, vintage, mg] = fitted::<5>(
+    let figures = fitted::<5>(
         b"(trade (from #) (to #) (set #) (vintage #) (mg #))",
         line,
         MOST_DIGITS,
     )?;
-    Some(Call::Trade(Trade {
-        from,
-        to,
-        set,
-        vintage,
-        mg,
-    }))
+    Some(Call::Trade(Trade::from(figures)))
 }
 
 fn apply(line: &[u8]) -> Option<Call>
     ensures { result ≡ call_in apply line.now }
 {
-    let [maker, set, vintage, year, mg] = fitted::<5>(
+    let figures = fitted::<5>(
         b"(apply (maker #) (set #) (vintage #) (year #) (mg #))",
         line,
         MOST_DIGITS,
     )?;
-    Some(Call::Apply(Application {
-        maker,
-        set,
-        vintage,
-        year,
-        mg,
-    }))
+    Some(Call::Apply(Application::from(figures)))
 }
 
 fn retire(line: &[u8]) -> Option<Call>
     ensures { result ≡ call_in retire line.now }
 {
-    let [maker, set, vintage, mg] = fitted::<4>(
+    let figures = fitted::<4>(
         b"(retire (maker #) (set #) (vintage #) (mg #))",
         line,
         MOST_DIGITS,
     )?;
-    Some(Call::Retire(Retirement {
-        maker,
-        set,
-        vintage,
-        mg,
-    }))
+    Some(Call::Retire(Retirement::from(figures)))
 }

@@ -1,17 +1,22 @@
 // The listing of a book's cells, over what the book layer says there is to show of a cell and a year.
-ghost use Rattle.std.specs.Prelude.{◌+◌, ◌*◌, ◌<◌, ◌≤◌, ◌≡◌, length, take, IfSome};
+ghost use Rattle.std.specs.Prelude.{◌+◌, ◌*◌, ◌<◌, ◌≤◌, ◌≡◌, [], ◌∷◌, length, take, IfSome};
 ghost use Rattle.book.specs.Sizes.{makers, sets, years};
+ghost use Rattle.text.specs.Pattern.{filled, hashes};
 ghost use Rattle.text.specs.Placing.{Adds, HasRoom, Puts, room_for};
 ghost use Rattle.text.specs.Listing.{cell_text, listing, lot_text, maker_text};
 ghost use Rattle.text.specs.Listing.{entry_room, listing_room, shortage_text};
 
 use crate::page::Page;
-use book::ledger::{Book, MAKERS, SETS, YEARS};
+use book::ledger::{Book, MAKERS, PLACES, SETS};
 use book::listing::{LotEntry, ShortageEntry, lot_entry, shortage_entry};
-use figuring::years::FIRST_YEAR;
+use book::places::{Cell, Place};
+use figuring::years::{FIRST_YEAR, LAST_YEAR};
 
-// Room for any book's listing: for each of 32 cells and 24 years a lot's line and a shortage's, of 64 bytes each.
-pub const LISTING_ROOM: usize = 98_304;
+// No line of a listing, or of a book's text, is longer.
+pub(crate) const ENTRY_ROOM: usize = 64;
+
+// Room for any book's listing: a lot's line and a shortage's for each place.
+pub const LISTING_ROOM: usize = 2 * PLACES * ENTRY_ROOM;
 
 // Puts the lines of all cells at out's start, and gives the place after them. Where out is shorter than LISTING_ROOM
 // there is none, and out is as it was.
@@ -45,72 +50,58 @@ fn put_maker(page: &mut Page, book: &Book, maker: u64)
     ensures { Adds (maker_text book.now maker) page.old page.new }
 {
     for set in 0..SETS {
-        put_cell(page, book, maker, set);
+        put_cell(page, book, Cell { maker, set });
     }
 }
 
-// The lots of a cell, and then its shortages.
-fn put_cell(page: &mut Page, book: &Book, maker: u64, set: u64)
-    requires room { HasRoom (years * entry_room + years * entry_room) page.old }
-    requires of_the_book { (maker < makers) × (set < sets) }
-    ensures { Adds (cell_text book.now maker set) page.old page.new }
+// The lots of a cell, and then its shortages. What there is to show is the book's to say, of plain numbers.
+fn put_cell(page: &mut Page, book: &Book, cell: Cell)
+    requires { HasRoom (years * entry_room + years * entry_room) page.old }
+    ensures { Adds (cell_text book.now cell.maker cell.set) page.old page.new }
 {
-    for i in 0..YEARS {
-        let year = FIRST_YEAR + i;
-        put_lot(
-            page,
-            maker,
-            set,
-            year,
-            lot_entry(book.open_year, &book.lots, maker, set, year),
-        );
+    for year in FIRST_YEAR..=LAST_YEAR {
+        let entry = lot_entry(book.open_year, &book.lots, cell.maker, cell.set, year);
+        put_lot(page, Place { cell, year }, entry);
     }
-    for i in 0..YEARS {
-        let year = FIRST_YEAR + i;
-        put_shortage(
-            page,
-            maker,
-            set,
-            year,
-            shortage_entry(book.open_year, &book.shortages, maker, set, year),
-        );
+    for year in FIRST_YEAR..=LAST_YEAR {
+        let entry = shortage_entry(book.open_year, &book.shortages, cell.maker, cell.set, year);
+        put_shortage(page, Place { cell, year }, entry);
     }
 }
 
 // Puts the line of a lot, where there is one to show.
-#[tactic(auto, using(crate::proofs::ListingLaws::entry_length), unfolding(crate::specs::Pattern::hashes))]
-fn put_lot(page: &mut Page, maker: u64, set: u64, year: u64, entry: Option<LotEntry>)
-    requires room { HasRoom entry_room page.old }
-    requires short { (maker < 10) × ((set < 10) × (year < 10000)) }
-    ensures { Adds (lot_text maker set year entry) page.old page.new }
+#[tactic(auto, unfolding(crate::specs::Pattern::hashes))]
+fn put_lot(page: &mut Page, at: Place, entry: Option<LotEntry>)
+    requires { HasRoom entry_room page.old }
+    ensures { Adds (lot_text at.cell.maker at.cell.set at.year entry) page.old page.new }
 {
     match entry {
-        Some(LotEntry::Live(mg)) => page.fill(b"(lot # # # live #)\n", &[maker, set, year, mg.0]),
-        Some(LotEntry::Expired(mg)) => page.fill(
-            b"(lot # # # expired #)\n",
-            &[maker, set, year, mg.0],
-        ),
+        Some(LotEntry::Live(mg)) => put_entry(page, at, b"(lot # # # live #)\n", mg.0),
+        Some(LotEntry::Expired(mg)) => put_entry(page, at, b"(lot # # # expired #)\n", mg.0),
         None => {}
     }
 }
 
-// Puts the line of a shortage, where there is one to show. That of a lot is no twin: all that the two share is `fill`,
-// and a trait for both entries would only take their patterns out of their arms.
-#[tactic(auto, using(crate::proofs::ListingLaws::entry_length), unfolding(crate::specs::Pattern::hashes))]
-fn put_shortage(page: &mut Page, maker: u64, set: u64, year: u64, entry: Option<ShortageEntry>)
-    requires room { HasRoom entry_room page.old }
-    requires short { (maker < 10) × ((set < 10) × (year < 10000)) }
-    ensures { Adds (shortage_text maker set year entry) page.old page.new }
+// Puts the line of a shortage, where there is one to show. It is of another type and other words than a lot's: what the two
+// share is `put_entry`.
+#[tactic(auto, unfolding(crate::specs::Pattern::hashes))]
+fn put_shortage(page: &mut Page, at: Place, entry: Option<ShortageEntry>)
+    requires { HasRoom entry_room page.old }
+    ensures { Adds (shortage_text at.cell.maker at.cell.set at.year entry) page.old page.new }
 {
     match entry {
-        Some(ShortageEntry::Open(mg)) => page.fill(
-            b"(short # # # open #)\n",
-            &[maker, set, year, mg.0],
-        ),
-        Some(ShortageEntry::Overdue(mg)) => page.fill(
-            b"(short # # # overdue #)\n",
-            &[maker, set, year, mg.0],
-        ),
+        Some(ShortageEntry::Open(mg)) => put_entry(page, at, b"(short # # # open #)\n", mg.0),
+        Some(ShortageEntry::Overdue(mg)) => put_entry(page, at, b"(short # # # overdue #)\n", mg.0),
         None => {}
     }
+}
+
+// Puts a place's line, by its pattern: of a listing here, of a book's text in `writing`.
+#[tactic(auto, using(crate::proofs::ListingLaws::entry_length))]
+pub(crate) fn put_entry(page: &mut Page, at: Place, pattern: &[u8], mg: u64)
+    requires room { HasRoom entry_room page.old }
+    requires of_a_line { (4 ≡ hashes pattern.now) × (length pattern.now + 26 ≤ entry_room) }
+    ensures { Adds (filled pattern.now (at.cell.maker ∷ at.cell.set ∷ at.year ∷ mg ∷ [])) page.old page.new }
+{
+    page.fill(pattern, &[at.cell.maker, at.cell.set, at.year, mg]);
 }

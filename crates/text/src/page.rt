@@ -2,10 +2,12 @@
 ghost use Rattle.std.specs.Prelude.{◌≡◌, ◌+◌, ◌≤◌, length, take, [], ◌∷◌};
 ghost use Rattle.text.specs.Numeral.{numeral};
 ghost use Rattle.text.specs.Pattern.{filled, hashes};
-ghost use Rattle.text.specs.Placing.{Adds, HasRoom};
+ghost use Rattle.text.specs.Placing.{Adds, HasRoom, by_sign};
 
 // What stands before `at` is written. Each method, and each function that is lent a page, needs room for all that it puts,
-// which is another for each: so the type cannot say it, and none of them can fail.
+// which is another for each: so the type cannot say it, and none of them can fail. Not std's `Cursor`: its `write` cuts
+// off what has no room and answers a count, and of its `write_all` and `write!` no contract says that they succeed, or
+// what then stands in the buffer.
 #[derive(Drop)]
 pub(crate) struct Page<'a> {
     out: &'a mut [u8],
@@ -37,7 +39,8 @@ impl<'a> Page<'a> {
         self.at += 1;
     }
 
-    // Puts n's decimal digits.
+    // Puts n's decimal digits. Not by `write!`: no contract says when that succeeds, so each function that puts would have
+    // to answer a failure.
     fn put_number(&mut self, n: u64)
         requires { HasRoom (length (numeral n)) self.old }
         ensures { Adds (numeral n) self.old self.new }
@@ -56,14 +59,26 @@ impl<'a> Page<'a> {
         requires room { HasRoom (length (filled pattern.now n.now)) self.old }
         ensures { Adds (filled pattern.now n.now) self.old self.new }
     {
-        let mut left = n;
+        let mut left = n.iter();
         for &p in pattern {
-            if p == b'#' {
-                self.put_number(left[0]);
-                left = &left[1..];
-            } else {
+            if p != b'#' {
                 self.put_byte(p);
+            } else if let Some(k) = left.next() {
+                self.put_number(*k);
             }
+        }
+    }
+
+    // Puts the pattern of a part's sign: `below`, which has its minus, or `other`. In n the part stands without a sign.
+    pub(crate) fn fill_by_sign(&mut self, part: i64, below: &[u8], other: &[u8], n: &[u64])
+        requires one_for_each { (length n.now ≡ hashes below.now) × (length n.now ≡ hashes other.now) }
+        requires room { HasRoom (length (filled (by_sign part below.now other.now) n.now)) self.old }
+        ensures { Adds (filled (by_sign part below.now other.now) n.now) self.old self.new }
+    {
+        if part < 0 {
+            self.fill(below, n);
+        } else {
+            self.fill(other, n);
         }
     }
 }

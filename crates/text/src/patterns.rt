@@ -1,7 +1,8 @@
-// Patterns: texts in which # stands for a number. This loop reads any pattern; `Page::fill` writes any.
+// Patterns: texts in which # stands for a number. This loop reads any pattern, word by word; `Page::fill` writes any.
 ghost use Rattle.std.specs.Prelude.{◌≡◌, ◌≤◌};
 ghost use Rattle.text.specs.Pattern.{fit, hashes};
 
+use crate::first_line::split_once;
 use crate::numbers::number;
 
 // Reads a text against a pattern, in which # stands for a number of at most `most` digits, any other byte for itself: the
@@ -12,21 +13,16 @@ pub(crate) fn fitted<const N: usize>(pattern: &[u8], text: &[u8], most: usize) -
     ensures { result ≡ fit most pattern.now text.now }
 {
     let mut n = [0; N];
-    let mut k = 0;
+    let mut form = pattern;
     let mut rest = text;
-    for p in pattern {
-        if *p == b'#' {
-            let (v, d) = number(rest, most)?;
-            n[k] = v;
-            k += 1;
-            rest = &rest[d..];
-        } else {
-            let (c, after) = rest.split_first()?;
-            if *c != *p {
-                return None;
-            }
-            rest = after;
-        }
+    for slot in n.iter_mut() {
+        // There is one: the pattern has N of them.
+        let (word, after) = split_once(form, b'#')?;
+        let here = rest.strip_prefix(word)?;
+        let (v, d) = number(here, most)?;
+        *slot = v;
+        form = after;
+        rest = &here[d..];
     }
-    if rest.is_empty() { Some(n) } else { None }
+    (rest == form).then_some(n)
 }

@@ -9,6 +9,7 @@ pub fn put_bytes(out: &mut [u8], at: usize, text: &[u8]) -> Option<usize>
         out.old result out.new }
 {
     let end = at.checked_add(text.len())?;
+    // Not by `get_mut(..)?`: behind it a proof has no name for the buffer.
     if out.len() < end {
         return None;
     }

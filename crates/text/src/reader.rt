@@ -1,12 +1,9 @@
 // "A reader carries the lent line along with its place": the line's slice and a position. Few thin functions: they take
-// it apart and call the covered reader of a slice and a number. `read_line` and `next_entry` have plain parameters, so
-// that their callers need no proof by hand. Over a book's text one is made at each line's place.
+// it apart and call the covered reader of a slice and a number. `read_line` has a plain parameter, so that its callers
+// need no proof by hand.
 ghost use Rattle.std.specs.Prelude.{◌≡◌};
-ghost use Rattle.text.specs.EntryReading.{next_entry};
 ghost use Rattle.text.specs.Line.{line_at, line_of};
 
-use crate::entries::Entry;
-use crate::entry_lines::entry_at;
 use crate::lines::form_at;
 use book::kinds::Call;
 
@@ -30,13 +27,6 @@ impl<'a> Reader<'a> {
     {
         form_at(self.line, self.at)
     }
-
-    // The entry of the line that begins at the reader's place, and where the next one begins.
-    pub(crate) fn entry(self) -> Option<(Entry, usize)>
-        ensures { result ≡ next_entry self.entry.line.now self.entry.at }
-    {
-        entry_at(self.line, self.at)
-    }
 }
 
 // The call that a line is, for any bytes (without the line feed).
@@ -45,11 +35,4 @@ pub fn read_line(line: &[u8]) -> Option<Call>
     ensures { result ≡ line_of line.now }
 {
     Reader::new(line).form()
-}
-
-// The entry of the line that begins at a place of a text, and where the next one begins.
-pub(crate) fn next_entry(text: &[u8], at: usize) -> Option<(Entry, usize)>
-    ensures { result ≡ next_entry text.now at }
-{
-    Reader { line: text, at }.entry()
 }

@@ -3,18 +3,18 @@ use native.Mathlib.Omega.{arith}
 use Rattle.book.proofs.PayLaws.{no_vintage, next_vintage, vintage_fits, not_open_paid}
 use Rattle.book.proofs.covering.pay_shortage.Goals as goal
 
-pub loop-i-init : goal.loop-i-init
-loop-i-init c = no_vintage c.requires
+pub loop-vintage-init : goal.loop-vintage-init
+loop-vintage-init c = no_vintage c.requires
 
 pub overflow_add-moved : goal.overflow_add-moved
 overflow_add-moved c =
-    let f = vintage_fits c.loop-i.invariant c.loop-i-test.true
+    let f = vintage_fits c.loop-vintage.invariant c.loop-vintage.auto.vintage c.loop-vintage-test.true
     c.pay_turn-moved.ensures in
     omega arith
 
-pub loop-i-preserved : goal.loop-i-preserved
-loop-i-preserved c =
-    next_vintage c.loop-i.invariant c.loop-i-test.true
+pub loop-vintage-preserved : goal.loop-vintage-preserved
+loop-vintage-preserved c =
+    next_vintage c.loop-vintage.invariant c.loop-vintage.auto.vintage c.loop-vintage-test.true
     c.pay_turn-moved.ensures
 
 pub returns-else-is_open : goal.returns-else-is_open

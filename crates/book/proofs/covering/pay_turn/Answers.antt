@@ -11,7 +11,7 @@ use Rattle.book.proofs.covering.pay_turn.Goals.{After-turn_amount-mg}
 
 -- the lot is one of the shortage's cell
 lot_is :
-    (c : After-turn_amount-mg) → key_of c.args.lot ≡ key c.args.shortage.maker c.args.shortage.set c.args.lot.year
+    (c : After-turn_amount-mg) → key_of c.args.lot ≡ key c.args.shortage.cell.maker c.args.shortage.cell.set c.args.lot.year
 lot_is c = ap (λ (d : Cover). key d.maker d.set c.args.lot.year) c.requires
 
 -- what is paid is the turn's amount by the rule

@@ -8,6 +8,6 @@ use Rattle.book.proofs.ledger.has_shortage.Goals as goal
 
 pub returns : goal.returns
 returns c =
-    let at = c.args.at in
-    let n : c.cell.result * years + years - c.cell.result * years ≡ years = omega arith in
-    rw (n, c.cell.ensures.at) at c.any_above_0.ensures ∙ any_year _ at.maker at.set (search rules) at.inside.maker at.inside.set
+    let at = c.args.cell in
+    let n : c.index-first.result * years + years - c.index-first.result * years ≡ years = omega arith in
+    rw (n, c.index-first.ensures.at) at c.any_above_0.ensures ∙ any_year _ at.maker at.set (search rules) at.maker_in at.set_in

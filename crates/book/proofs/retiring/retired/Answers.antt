@@ -9,12 +9,12 @@ use Rattle.book.proofs.retiring.retired.Goals.{In_ok-retire_verdict}
 facts : (c : In_ok-retire_verdict) → Retirable c.args.book.now c.args.p
 facts c = retirement_facts _ _ c.retire_verdict.ensures c.in_ok-retire_verdict.was
 
-pub invariant_of-lot : goal.invariant_of-lot
-invariant_of-lot c = record { inside = (facts (goal.at.invariant_of-lot c).In_ok-retire_verdict).payer.lot }
+pub at-lot-requires : goal.at-lot-requires
+at-lot-requires c = (facts (goal.at.at-lot-requires c).In_ok-retire_verdict).payer.lot
 
 pub returns : goal.returns
 unfolding done retirement_done
 returns c t =
     let paid = c.lower_figure-left.ensures in
-    rw (paid.figures, paid.left)
+    rw (paid.figures, paid.left, c.at-lot.ensures)
     (done_so t _ (Call.Retire _) (c.retire_verdict.ensures t) c.in_ok-retire_verdict.was)

@@ -1,44 +1,45 @@
+use Prim.Native.Nat.{◌-◌}
+use native.Mathlib.Omega.{arith}
 use borrow.Author.Rules.{rules}
-use mathlib.Core.Path.{sym, ◌∙◌}
+use mathlib.Core.Path.{sym, ap₂, ◌∙◌}
 use Rattle.figuring.proofs.BoolLaws.{denied, granted, and_intro}
+use Rattle.figuring.specs.Years.{first_year}
 use Rattle.book.specs.Sizes.{makers, sets, families, years}
-use Rattle.book.specs.Soundness.{cell_sound, maker_sound, cells_sound}
+use Rattle.book.specs.Soundness.{figures_sound, cell_sound, maker_sound, cells_sound}
 use Rattle.figuring.proofs.BelowLaws.{all_more, all_done}
-use Rattle.book.proofs.PlaceLaws.{heard_family, heard_year, family_fault, year_fault}
+use Rattle.book.proofs.PlaceLaws.{counted_on, heard_family, heard_year, family_fault, year_fault}
 use Rattle.book.proofs.soundness.cells_sound.Goals as goal
 
-pub loop-family-preserved : goal.loop-family-preserved
-loop-family-preserved c = (
+pub loop-number-preserved : goal.loop-number-preserved
+loop-number-preserved c = (
   search rules,
   (
     search rules,
-    all_more _ _ c.loop-family.invariant.1.1
-        (granted (heard_family _ _ _ c.part-1.given c.part_sound.ensures) c.if-not-part_sound.false-raw),
+    all_more _ _ c.loop-number.invariant.1.1
+        (granted (heard_family _ _ _ (rw c.index-in-loop-number.ensures.at at c.part-1.given) (rw (c.index.ensures.at, c.index-in-loop-number.ensures.at) at c.part_sound.ensures)) c.if-not-part_sound.false-raw),
   ),
 )
 
-pub loop-i-preserved : goal.loop-i-preserved
-loop-i-preserved c = (
+pub loop-year-preserved : goal.loop-year-preserved
+loop-year-preserved c = (
   search rules,
-  (
-    search rules,
-    all_more _ _ c.loop-i.invariant.1.1
-        (granted (heard_year _ _ _ _ c.figures_sound.ensures) c.if-not-figures_sound.false-raw),
-  ),
+  rw (counted_on _ c.loop-year.auto.year)
+      (all_more _ _ c.loop-year.invariant.1
+      (granted (heard_year _ _ _ _ c.loop-year.auto.year (c.figures_sound.ensures ∙ ap₂ (figures_sound _ _) c.figure_at-lot.ensures c.figure_at-shortage.ensures)) c.if-not-figures_sound.false-raw)),
 )
 
 pub loop-set-preserved : goal.loop-set-preserved
 unfolding cell_sound
 loop-set-preserved c =
-    let l = c.loop-i in
-    let k = c.loop-family in (
+    let l = c.loop-year in
+    let k = c.loop-number in (
       search rules,
       (
         search rules,
         all_more _ _ c.loop-set.invariant.1.1
             (and_intro
-            (all_done _ families k.family k.invariant.0 c.loop-family-test.false k.invariant.1.1)
-            (all_done _ years l.i l.invariant.0 c.loop-i-test.false l.invariant.1.1)),
+            (all_done _ families k.number k.invariant.0 c.loop-number-test.false k.invariant.1.1)
+            (all_done _ years (l.year - first_year) (omega (arith, l.auto.year-end (omega arith))) (omega arith) l.invariant.1)),
       ),
     )
 
@@ -63,12 +64,12 @@ returns-after-walk c =
 pub returns-then-not-part_sound : goal.returns-then-not-part_sound
 returns-then-not-part_sound c =
     sym
-    (family_fault _ c.walk.maker c.loop-set.set c.loop-family.family (search rules) (search rules)
+    (family_fault _ c.walk.maker c.loop-set.set c.loop-number.number (search rules) (search rules)
     (search rules)
-    (denied (heard_family _ _ _ c.part-1.given c.part_sound.ensures) c.if-not-part_sound.true-raw))
+    (denied (heard_family _ _ _ (rw c.index-in-loop-number.ensures.at at c.part-1.given) (rw (c.index.ensures.at, c.index-in-loop-number.ensures.at) at c.part_sound.ensures)) c.if-not-part_sound.true-raw))
 
 pub returns-then-not-figures_sound : goal.returns-then-not-figures_sound
 returns-then-not-figures_sound c =
     sym
-    (year_fault _ c.walk.maker c.loop-set.set c.loop-i.i (search rules) (search rules)
-    (search rules) (denied (heard_year _ _ _ _ c.figures_sound.ensures) c.if-not-figures_sound.true-raw))
+    (year_fault _ c.walk.maker c.loop-set.set (c.loop-year.year - first_year) (search rules) (search rules)
+    (omega arith) (denied (heard_year _ _ _ _ c.loop-year.auto.year (c.figures_sound.ensures ∙ ap₂ (figures_sound _ _) c.figure_at-lot.ensures c.figure_at-shortage.ensures)) c.if-not-figures_sound.true-raw))

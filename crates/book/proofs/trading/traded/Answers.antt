@@ -9,12 +9,15 @@ use Rattle.book.proofs.trading.traded.Goals.{In_ok-trade_verdict}
 facts : (c : In_ok-trade_verdict) → Tradable c.args.book.now c.args.t
 facts c = trade_facts _ _ c.trade_verdict.ensures c.in_ok-trade_verdict.was
 
-pub invariant_of-seller : goal.invariant_of-seller
-invariant_of-seller c = record { inside = (facts (goal.at.invariant_of-seller c).In_ok-trade_verdict).seller.lot }
+pub at-seller-requires : goal.at-seller-requires
+at-seller-requires c = (facts (goal.at.at-seller-requires c).In_ok-trade_verdict).seller.lot
+
+pub at-buyer-requires : goal.at-buyer-requires
+at-buyer-requires c = (facts (goal.at.at-buyer-requires c).In_ok-trade_verdict).buyer
 
 pub returns : goal.returns
 unfolding done trade_done
 returns c t =
     let paid = c.lower_figure-left.ensures in
-    rw (c.raise_figure.ensures, paid.figures, paid.left)
+    rw (c.raise_figure.ensures, paid.figures, paid.left, c.at-seller.ensures, c.at-buyer.ensures)
     (done_so t _ (Call.Trade _) (c.trade_verdict.ensures t) c.in_ok-trade_verdict.was)

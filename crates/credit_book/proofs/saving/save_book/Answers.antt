@@ -1,23 +1,21 @@
-use Rattle.std.proofs.Common.{◌∙◌, ap, sym, arith, length, length-take-le}
-use Rattle.text.proofs.WritingLaws.{written_front}
-use Rattle.credit_book.proofs.SavingLaws.{saves_text, saves_nothing}
+use Rattle.std.specs.Prelude.{Some}
+use Rattle.std.proofs.Common.{arith, length-take-le, sym, ap, ◌∙◌}
+use Rattle.credit_book.proofs.SavingLaws.{saves_nothing, saves_text, text_in}
 use Rattle.credit_book.proofs.saving.save_book.Goals as goal
+
+pub returns-in_err-handed : goal.returns-in_err-handed
+returns-in_err-handed c =
+    rw c.from_residual.ensures
+    (saves_nothing _ _ c.write_book.ensures c.ok.ensures.value (omega arith) c.in_err-handed.was)
+
+pub shared_ref_as_front-save_named : goal.shared_ref_as_front-save_named
+shared_ref_as_front-save_named c =
+    omega (arith, text_in _ _ c.write_book.ensures c.ok.ensures.value c.in_ok-handed.was, c.write_book.auto.out)
 
 pub slice_bounds-save_named-end : goal.slice_bounds-save_named-end
 slice_bounds-save_named-end c =
-    let wrote = c.write_book.ensures in
-    let front = written_front _ _ _ (sym wrote.0 ∙ c.in-Ok.is) in
-    omega (arith, front.0, ap length wrote.1)
+    sym (length-take-le _ _ (text_in _ _ c.write_book.ensures c.ok.ensures.value c.in_ok-handed.was))
 
-pub slice_bounds-save_named-end-in-Ok : goal.slice_bounds-save_named-end-in-Ok
-slice_bounds-save_named-end-in-Ok c = sym (length-take-le _ _ (slice_bounds-save_named-end c))
-
-pub returns-in-Ok : goal.returns-in-Ok
-returns-in-Ok c =
-    let wrote = c.write_book.ensures in
-    saves_text _ _ (omega (arith, c.requires)) (sym c.in-Ok.is ∙ wrote.0) wrote.1
-
-pub returns-in-Err : goal.returns-in-Err
-returns-in-Err c =
-    let wrote = c.write_book.ensures in
-    saves_nothing _ _ (omega (arith, c.requires)) (sym c.in-Err.is ∙ wrote.0)
+pub returns : goal.returns
+returns c =
+    saves_text _ _ c.write_book.ensures c.ok.ensures.value (omega arith) (c.in_ok-handed.was ∙ ap Some (sym c.told.ensures.0))

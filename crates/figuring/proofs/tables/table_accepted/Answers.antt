@@ -1,27 +1,14 @@
-use Rattle.std.proofs.Common.{refl, sym}
-use Rattle.figuring.specs.Below.{all_below}
-use Rattle.figuring.specs.Grid.{grid_years}
-use Rattle.figuring.specs.Tables.{row_before, accepted_table}
-use Rattle.figuring.proofs.BelowLaws.{all_more, all_fails, all_done}
-use Rattle.figuring.proofs.TableLaws.{row_good_is, next_before}
+use Rattle.std.proofs.Common.{rules, sym, ◌∙◌}
+use Rattle.std.proofs.lemmas.List.Sorted.{answers_always}
+use Rattle.figuring.specs.Tables.{row_fits}
+use Rattle.figuring.proofs.TableLaws.{fit_in_turn, first_unfit}
 use Rattle.figuring.proofs.tables.table_accepted.Goals as goal
 
-pub loop-row-init : goal.loop-row-init
-unfolding all_below row_before
-loop-row-init c = (refl, refl)
+pub returns-then-row_fits : goal.returns-then-row_fits
+returns-then-row_fits c =
+    fit_in_turn c.args.table (search rules) (sym c.row_fits.ensures ∙ c.if-row_fits.true)
+    (c.is_sorted_by.ensures.cases row_fits (answers_always _ _ _ (λ f a r g k. search rules)))
 
-pub returns-then-not-row_fits : goal.returns-then-not-row_fits
-unfolding accepted_table
-returns-then-not-row_fits c =
-    let v = c.loop-row.invariant in
-    sym (all_fails _ grid_years c.loop-row.row-index c.loop-row-test.true (row_good_is _ _ v.0 (cc)))
-
-pub loop-row-preserved : goal.loop-row-preserved
-loop-row-preserved c =
-    let v = c.loop-row.invariant in
-    (next_before _ _, all_more _ _ v.1 (row_good_is _ _ v.0 (cc)))
-
-pub returns : goal.returns
-unfolding accepted_table
-returns c =
-    sym (all_done _ grid_years c.loop-row.row-index c.loop-row.auto.row-index-end c.loop-row-test.false c.loop-row.invariant.1)
+pub returns-else-row_fits : goal.returns-else-row_fits
+returns-else-row_fits c =
+    c.if-row_fits.false ∙ first_unfit c.args.table (sym c.row_fits.ensures ∙ c.if-row_fits.false)

@@ -3,7 +3,7 @@ use borrow.Author.Tests.{lt-ltb, le-ltb}
 use lib.ListN.{drop_of_length-le}
 use Rattle.text.specs.Line.{line_at, first_form, forms}
 use Rattle.text.specs.Pattern.{fit}
-use Rattle.text.proofs.FirstLineLaws.{rest_is}
+use Rattle.std.proofs.lemmas.List.{take_rest}
 use Rattle.text.proofs.lines.form_at.Goals as goal
 
 -- A longer line is no form; of any other, a part that starts past its end is empty, which no form is.
@@ -31,4 +31,4 @@ unfolding line_at
 returns c =
     c.first_form.ensures
     ∙ rw (le-ltb _ _ c.if-line-gt-LONGEST_LINE.false)
-    (ap (first_form forms) (c.in_ok-get.ensures.lookup.0.2 ∙ rest_is c.args.line.now c.args.at))
+    (ap (first_form forms) (c.in_ok-get.ensures.lookup.0.2 ∙ take_rest c.args.line.now c.args.at))

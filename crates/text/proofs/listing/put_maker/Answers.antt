@@ -8,8 +8,8 @@ use Rattle.text.proofs.listing.put_maker.Goals as goal
 pub loop-set-init : goal.loop-set-init
 loop-set-init c = none_yet
 
-pub put_cell-requires-clause-room : goal.put_cell-requires-clause-room
-put_cell-requires-clause-room c = room_left c.loop-set.invariant sets c.loop-set-test.true c.requires.room
+pub put_cell-requires : goal.put_cell-requires
+put_cell-requires c = room_left c.loop-set.invariant sets c.loop-set-test.true c.requires.room
 
 pub loop-set-preserved : goal.loop-set-preserved
 loop-set-preserved c = one_more c.loop-set.invariant (cell_length c.args.book.now c.args.maker c.requires.of_the_book _ c.loop-set-test.true) c.put_cell.ensures

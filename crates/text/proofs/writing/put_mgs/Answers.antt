@@ -1,20 +1,36 @@
+use borrow.Author.Rules.{rules}
 use Rattle.book.specs.Sizes.{places}
 use Rattle.text.proofs.ListingLaws.{none_yet, room_left, one_more}
 use Rattle.text.proofs.BookRoomLaws.{mg_fits}
-use Rattle.text.proofs.WritingLaws.{mg_adds}
+use Rattle.text.proofs.StoreLaws.{adds_nothing}
+use Rattle.text.proofs.WritingLaws.{mg_adds, no_mg}
+use Rattle.text.proofs.writing.put_mgs.Goals.{then-mg-gt0+in-Some, else-mg-gt0}
+use Rattle.text.proofs.writing.put_mgs.Goals.{else-mg-gt0-via-else-mg-gt0, else-mg-gt0-via-then-mg-gt0+in-None-1}
 use Rattle.text.proofs.writing.put_mgs.Goals as goal
 
--- The invariant: the lines of the places before this one stand on the page.
+-- The invariant: the lines of the figures before this one stand on the page.
 
-pub loop-place-init : goal.loop-place-init
-loop-place-init c = none_yet
+pub loop-index-init : goal.loop-index-init
+loop-index-init c = none_yet
 
-pub put_mg-requires-clause-room : goal.put_mg-requires-clause-room
-put_mg-requires-clause-room c =
-    (room_left c.loop-place.invariant places c.loop-place-test.true c.requires.room, c.loop-place-test.true)
+pub put_entry-requires-clause-room : goal.put_entry-requires-clause-room
+put_entry-requires-clause-room c = room_left c.loop-index.invariant places c.loop-index-test.true c.requires.room
 
-pub loop-place-preserved : goal.loop-place-preserved
-loop-place-preserved c =
-    one_more c.loop-place.invariant
-    (mg_fits c.args.pattern.now c.args.figures.now c.loop-place.place c.loop-place-test.true c.requires.of_a_line.1)
-    (mg_adds c.args.pattern.now c.args.figures.now c.loop-place.place c.put_mg.ensures)
+pub loop-index-preserved : goal.loop-index-preserved
+loop-index-preserved c =
+    let p = c.args.pattern.now in
+    let l = c.args.figures.now in
+    let i = c.loop-index.index in
+    let short = mg_fits p l i c.loop-index-test.true c.requires.of_a_line.1 in
+    elim c.if-mg-gt0.branch [
+      | then-mg-gt0+in-Some w ↦
+          rw w.page-is
+          (one_more c.loop-index.invariant short (mg_adds p l i w.in-Some.at w.in-Some.ensures w.if-mg-gt0.true w.put_entry.ensures))
+      | else-mg-gt0 w ↦
+          rw w.page-is
+          (one_more c.loop-index.invariant short
+          (elim w.else-mg-gt0.branch [
+            | else-mg-gt0-via-else-mg-gt0 w' ↦ adds_nothing (no_mg p l i w'.if-mg-gt0.false)
+            | else-mg-gt0-via-then-mg-gt0+in-None-1 w' ↦ absurd (search rules)
+          ]))
+    ]

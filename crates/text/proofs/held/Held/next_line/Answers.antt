@@ -1,15 +1,8 @@
-use mathlib.Core.Path.{refl}
-use Rattle.text.proofs.ServeLaws.{line_ends, byte_held, chunk_ends}
+use Rattle.text.proofs.HeldLaws.{line_ends, chunk_ends}
 use Rattle.text.proofs.held.Held.next_line.Goals as goal
 
-pub returns-then-b-eq10 : goal.returns-then-b-eq10
-returns-then-b-eq10 c =
-    rw c.end_line.ensures.1
-    (line_ends c.loop-left.invariant c.in-len1-up.len_at_least _ _ c.if-b-eq10.true c.end_line.ensures.0 refl)
-
-pub loop-left-preserved : goal.loop-left-preserved
-loop-left-preserved c =
-    rw c.push.ensures (byte_held c.loop-left.invariant c.in-len1-up.len_at_least c.if-b-eq10.false)
+pub returns-in_default : goal.returns-in_default
+returns-in_default c = rw c.hold.ensures (chunk_ends c.in_default.ensures)
 
 pub returns : goal.returns
-returns c = chunk_ends c.loop-left.invariant c.in_default.len_below
+returns c = rw c.end_line.ensures.1 (line_ends c.in-Some.ensures (rw c.hold-2.ensures at c.end_line.ensures.0))

@@ -6,7 +6,7 @@ use Rattle.text.specs.Program.{joined}
 use Rattle.credit_book.specs.declared.progress.Lapse.{Lapse}
 use Rattle.credit_book.specs.declared.progress.Progress.{Progress}
 use Rattle.credit_book.specs.Turns.{count, most_turns, progress}
-use Rattle.credit_book.specs.Files.{AddedBy, Broken, ComesTo, Pieces, ReadWhole, unless_full}
+use Rattle.credit_book.specs.Files.{AddedBy, Broken, ComesTo, Pieces, ReadWhole, Torn, unless_full}
 
 -- ---- the reading
 -- what has been read so far, and how far that has come: the loop's invariant is this at `More`
@@ -69,12 +69,20 @@ pub whole : {text₀ text : List ℕ} {len turns : ℕ} → SoFar text₀ text l
 whole g =
     record { pieces = g.pieces; reading = rw g.long g.reading; len_is = g.len_is; bytes_are = g.bytes_are }
 
-pub failed : {text₀ text : List ℕ} {len turns : ℕ} → SoFar text₀ text len turns Progress.Failed → Broken (length text)
-failed g = record { pieces = g.pieces; reading = inl (rw g.long g.reading) }
+pub failed : {text₀ text : List ℕ} {len turns : ℕ} → SoFar text₀ text len turns Progress.Failed → Torn text
+failed g =
+    record {
+      broken = record { pieces = g.pieces; reading = inl (rw g.long g.reading) };
+      bytes_are = rw g.len_is at g.bytes_are;
+    }
 
 pub used_up :
-    {text₀ text : List ℕ} {len : ℕ} → SoFar text₀ text len most_turns Progress.More → Broken (length text)
-used_up g = record { pieces = g.pieces; reading = inr (rw g.long g.reading, sym g.counts) }
+    {text₀ text : List ℕ} {len : ℕ} → SoFar text₀ text len most_turns Progress.More → Torn text
+used_up g =
+    record {
+      broken = record { pieces = g.pieces; reading = inr (rw g.long g.reading, sym g.counts) };
+      bytes_are = rw g.len_is at g.bytes_are;
+    }
 
 -- ---- what the text comes to
 -- by any f that a text's first bytes decide

@@ -45,10 +45,15 @@ pub record Broken (room : ℕ) : Type 0 where
   pub pieces : List (List ℕ)
   pub reading : Pieces room pieces Progress.Failed ⊎ (Pieces room pieces Progress.More × (length pieces ≡ most_turns))
 
+-- and of such a one the buffer's first bytes are the pieces still
+pub record Torn (text : List ℕ) : Type 0 where
+  pub broken : Broken (length text)
+  pub bytes_are : take (length (joined broken.pieces)) text ≡ joined broken.pieces
+
 -- the reading of a file
 abbrev pub TextReadBy : Result ℕ Unusable → List ℕ → Type 0
 TextReadBy (Ok len) text = ReadWhole len text
-TextReadBy (Err Unusable.Unreadable) text = Broken (length text)
+TextReadBy (Err Unusable.Unreadable) text = Torn text
 TextReadBy (Err (Unusable.Refused n)) text = ⊥
 
 -- a file was read to its end, or until `room` bytes were read, nothing failed, and by f its text comes to v

@@ -1,10 +1,12 @@
 // Card 8: the book of a run written out at its end, in the place of the file named after `--write`. It goes to a new file
 // beside it, which is synced and then renamed over the file: so a failure at any moment leaves the old file whole. What
 // failed is told.
+ghost use Rattle.std.specs.Prelude.{◌≤◌, length};
+ghost use Rattle.credit_book.specs.Turns.{out_room};
 ghost use Rattle.credit_book.specs.Saving.{SavedBy, SavesBook};
 
 use crate::arguments::named_path;
-use crate::console::{Closed, OUT_ROOM, Wrote};
+use crate::console::{Closed, Wrote};
 use book::ledger::Book;
 use std::fs::{File, OpenOptions};
 use std::io::{ErrorKind, Write};
@@ -66,7 +68,8 @@ fn save_named(rt: HostRuntime, name: usize, text: &[u8]) -> io::Result<()> {
 }
 
 // Hands the text of a book to the file that an argument names. If that does not go well, that is told.
-fn save_book(rt: HostRuntime, name: usize, book: &Book, out: &mut [u8; OUT_ROOM]) -> Option<Wrote>
+fn save_book(rt: HostRuntime, name: usize, book: &Book, out: &mut [u8]) -> Option<Wrote>
+    requires { out_room ≤ length out.old }
     ensures { SavesBook book.now result out.new }
 {
     let handed = write_book(out, book).ok()?;
@@ -79,8 +82,9 @@ pub fn save(
     rt: HostRuntime,
     name: Option<usize>,
     closed: Option<Closed>,
-    out: &mut [u8; OUT_ROOM],
+    out: &mut [u8],
 ) -> Option<Wrote>
+    requires { out_room ≤ length out.old }
     ensures { SavedBy name closed result }
 {
     let name = name?;

@@ -1,4 +1,6 @@
-use Rattle.credit_book.proofs.FileLaws.{next, whole, failed}
+use Rattle.std.proofs.Common.{◌≡◌, arith}
+use Rattle.credit_book.specs.Turns.{most_turns}
+use Rattle.credit_book.proofs.FileLaws.{next, whole, failed, used_up}
 use Rattle.credit_book.proofs.files.read_text.Goals as goal
 
 pub returns-in-Ended : goal.returns-in-Ended
@@ -8,3 +10,8 @@ returns-in-Ended c =
 pub returns-in-Failed : goal.returns-in-Failed
 returns-in-Failed c =
     failed (next c.loop.invariant c.add_some-read.auto.text c.add_some-read.ensures c.unwrap_or-len.ensures (cc))
+
+pub returns : goal.returns
+returns c =
+    let e : c.loop.counter ≡ most_turns = omega (arith, c.loop-test.false, c.loop.auto.counter-end) in
+    used_up (rw e at c.loop.invariant)

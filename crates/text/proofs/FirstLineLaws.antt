@@ -17,8 +17,8 @@ use Rattle.figuring.proofs.BoolLaws.{both}
 use Rattle.text.specs.Numeral.{numeral, numeral_of}
 use Rattle.text.specs.Pattern.{filled, hash, choose}
 use Rattle.text.specs.Desk.{line_feed}
-use Rattle.text.specs.Lines.{lines_from, lines_of, OneLine}
-use Rattle.text.specs.FirstLine.{first_line, after_line, Lacks, Parted}
+use Rattle.text.specs.Lines.{Lacks, lines_from, lines_of, OneLine}
+use Rattle.text.specs.FirstLine.{first_line, after_line, Parted}
 use Rattle.text.proofs.SessionLaws.{lines}
 
 -- ---- a pattern with no line feed in it is filled to one line
@@ -114,10 +114,6 @@ after_cut k s h =
     ∙ ap (λ (j : ℕ). drop n (take j s)) e ∙ drop-take n (k - n) s
 
 -- ---- by its line feed
-pub one_line : (l : List ℕ) → Lacks line_feed l → OneLine l
-one_line [] h = tt
-one_line (b ∷ l) h = (h.0, one_line l h.1)
-
 first_before : (l r : List ℕ) → OneLine l → first_line (l ++ (line_feed ∷ r)) ≡ l
 unfolding first_line
 first_before [] r h = refl
@@ -138,8 +134,8 @@ pub first_or_last :
     → MatchOption o (Lacks line_feed s) (λ r. Parted line_feed s r.0.now r.1.now) → d.0.now ≡ s → d.1.now ≡ []
     → ((unwrap_or o d).0.now ≡ first_line s) × ((unwrap_or o d).1.now ≡ after_line s)
 first_or_last s None d h e f =
-    let q : first_line s ≡ s = first_last s (one_line s h) in
+    let q : first_line s ≡ s = first_last s h in
     rw q (e, f ∙ sym (drop_of_length-le s {i = suc (length s)} (omega arith)))
 first_or_last s (Some (l, r)) d h e f =
-    let q : first_line (l.now ++ (line_feed ∷ r.now)) ≡ l.now = first_before l.now r.now (one_line l.now h.lacks) in
+    let q : first_line (l.now ++ (line_feed ∷ r.now)) ≡ l.now = first_before l.now r.now h.lacks in
     rw (h.parts, q) (refl, sym (drop_past l.now r.now))

@@ -1,31 +1,23 @@
 -- Laws of what is held of a line: a run of its bytes held at once, and a chunk's first line feed.
-use Rattle.std.specs.Prelude.{Option, Some, None, fold, min, position}
+use Rattle.std.specs.Prelude.{Option, Some, None, fold, min}
 use Rattle.std.specs.Prelude.{Result, Ok}
 use Rattle.std.specs.Io.KnownBytes.{WriteAppends}
-use Rattle.std.specs.List.{position_or_len}
-use Rattle.std.proofs.lemmas.List.Quantifiers.{position-Some}
-use Rattle.std.proofs.lemmas.List.Sums.{fails_before_first}
 use Rattle.std.specs.Borrow.{Bor}
-use Prim.Native.Nat.{ℕ, zero, suc, ◌+◌, ◌-◌, ◌<◌}
+use Prim.Native.Nat.{ℕ, zero, suc, ◌-◌}
 use native.Mathlib.Omega.{arith}
-use native.Mathlib.Numerals.{add-one}
-use mathlib.Core.Bool.{Bool, true, false, cond}
-use lib.Dec.{ltb, eqb}
-use mathlib.Core.Path.{◌≡◌, refl, sym, ap, subst, ◌∙◌}
+use mathlib.Core.Path.{◌≡◌, refl, sym, ap, ◌∙◌}
 use mathlib.Core.List.{List, [], ◌∷◌, ◌++◌, append_assoc, append-nil}
-use lib.ListN.{length, get_or, take, drop, length-append, length-drop, take-append-drop}
-use lib.Seq.{take_all, take-nil, drop-cons}
-use borrow.Author.Tests.{lt-ltb, le-ltb, ltb-false, eqb-true, eqb-false, ne_eqb}
+use lib.ListN.{length, take, length-append}
+use borrow.Author.Tests.{lt-ltb, le-ltb, ne_eqb}
 use Rattle.figuring.specs.Tables.{Table}
 use Rattle.book.specs.declared.ledger.Book.{Book}
 use Rattle.book.specs.declared.kinds.Call.{Call}
 use Rattle.text.specs.Line.{line_of}
 use Rattle.text.specs.Answers.{answer_to}
 use Rattle.text.specs.Desk.{Terminal, takes_all, held_with, most_held, line_feed}
-use Rattle.text.specs.Lines.{OneLine}
+use Rattle.text.specs.Lines.{Lacks, OneLine}
 use Rattle.text.specs.Serving.{NextLine}
-use Rattle.text.specs.FirstLine.{Lacks, Parted}
-use Rattle.text.proofs.FirstLineLaws.{one_line}
+use Rattle.text.specs.FirstLine.{Parted}
 use Rattle.text.proofs.SessionLaws.{takes_append}
 
 -- a terminal in the midst of a chunk
@@ -69,9 +61,9 @@ module _ {held chunk : List ℕ} where
         goes =
             λ t b said. ap (takes_all t (midst b held said)) p.parts
             ∙ (takes_append t (midst b held said) before (line_feed ∷ rest.now)
-            ∙ rw (run_taken t b said held before (one_line before p.lacks), is));
+            ∙ rw (run_taken t b said held before p.lacks, is));
         shorter = rw (p.parts, length-append) (omega arith);
       }
 
   pub chunk_ends : Lacks line_feed chunk → NextLine held chunk None (fold held_with held chunk)
-  chunk_ends h = record { goes = λ t b said. run_taken t b said held chunk (one_line chunk h); shorter = tt }
+  chunk_ends h = record { goes = λ t b said. run_taken t b said held chunk h; shorter = tt }

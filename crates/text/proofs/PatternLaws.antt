@@ -9,7 +9,8 @@ use lib.ListN.{length, take, drop, set, replicate, length-replicate, length-set}
 use lib.Seq.{take-suc-set, take_all}
 use borrow.Author.Tests.{ne_eqb, eqb-false}
 use Rattle.std.specs.Cmp.Lexicographic.{pointwise}
-use Rattle.text.specs.FirstLine.{Lacks, Parted}
+use Rattle.text.specs.FirstLine.{Parted}
+use Rattle.text.specs.Lines.{Lacks}
 use lib.Dec.{eqb}
 use Rattle.std.proofs.Common.{Option, Some, None}
 use Rattle.std.proofs.lemmas.List.{take_rest}

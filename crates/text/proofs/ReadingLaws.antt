@@ -25,20 +25,19 @@ use Rattle.std.specs.Option.{option_and_then}
 use Rattle.std.proofs.lemmas.Option.{none-some, same_Some}
 use Rattle.text.specs.Pattern.{fit, hashes}
 use Rattle.text.specs.Line.{figure}
-use Rattle.text.specs.Lines.{lines_from, lines_of, OneLine}
+use Rattle.text.specs.Lines.{Lacks, lines_from, lines_of, OneLine}
 use Rattle.text.specs.Rendered.{Small}
 use Rattle.text.specs.Entries.{in_book, rank, enter, empty_at}
 use Rattle.text.specs.BookText.{EntryForm, family_below, open_form}
 use Rattle.text.specs.BookReading.{book_digits, only_if, entry_in, entry_of, entered}
 use Rattle.text.specs.BookReading.{book_in, ends_in_feed, all_ended}
 use Rattle.text.specs.Desk.{line_feed}
-use Rattle.text.specs.FirstLine.{Lacks, Parted}
+use Rattle.text.specs.FirstLine.{Parted}
 use Rattle.text.specs.EntryReading.{above_0, entered_text}
 use Rattle.std.proofs.lemmas.List.{nil_from_length}
 use Rattle.text.proofs.FormLaws.{listed}
 use Rattle.text.proofs.RenderLaws.{fit_fills}
 use Rattle.text.proofs.SessionLaws.{lines}
-use Rattle.text.proofs.FirstLineLaws.{one_line}
 use Rattle.text.proofs.FeedLaws.{feed_then, no_feed_lem}
 
 -- ---- the entry of a form
@@ -156,7 +155,7 @@ module _ (t : List ℕ) (least : ℕ) (b : Book) where
   text_ends h = rw (nil_from_length t h)
 
   pub unfed : 0 < length t → Lacks line_feed t → entered_text least b t ≡ None
-  unfed h one = rw (unended_text t h (one_line t one))
+  unfed h one = rw (unended_text t h one)
 
 -- at a line with one
 module _ {t l r : List ℕ} (cut : Parted line_feed t l r) (least : ℕ) (b : Book) where
@@ -166,7 +165,7 @@ module _ {t l r : List ℕ} (cut : Parted line_feed t l r) (least : ℕ) (b : Bo
       (entry_of l)
   unfolding entered
   goes =
-      rw (cut.parts, feed_then true l r, lines.ended l r (one_line l cut.lacks))
+      rw (cut.parts, feed_then true l r, lines.ended l r cut.lacks)
       (later (all_ended r) (entry_of l) (λ e. in_book e && leb least (rank e))
       (λ e. entered (suc (rank e)) (enter b e) (lines_of r)))
 
@@ -196,7 +195,7 @@ module _ (t : List ℕ) where
 
   pub no_line : Lacks line_feed t → read ≡ None
   unfolding book_in lines_from ends_in_feed
-  no_line one = go t refl (one_line t one)
+  no_line one = go t refl one
     where
       go : (s : List ℕ) → t ≡ s → OneLine s → only_if (all_ended s) (book_in (lines_of s)) ≡ None
       go [] p one = refl
@@ -207,7 +206,7 @@ module _ (t : List ℕ) where
         read ≡ option_and_then (λ n. entered_text 0 (empty_at (figure n 0)) r) (fit book_digits open_form l)
     unfolding book_in
     opens =
-        rw (cut.parts, feed_then true l r, lines.ended l r (one_line l cut.lacks)) (go (all_ended r) (fit book_digits open_form l))
+        rw (cut.parts, feed_then true l r, lines.ended l r cut.lacks) (go (all_ended r) (fit book_digits open_form l))
       where
         go :
             (b : Bool) (o : Option (List ℕ))

@@ -13,7 +13,8 @@ use Rattle.std.specs.List.{position_or_len}
 use Rattle.std.proofs.lemmas.List.{take_rest}
 use Rattle.std.proofs.lemmas.List.Sums.{split_at_first, passes_at_first}
 use Rattle.std.proofs.lemmas.Option.{none-some, same_Some}
-use Rattle.text.specs.FirstLine.{Lacks, Parted}
+use Rattle.text.specs.FirstLine.{Parted}
+use Rattle.text.specs.Lines.{Lacks}
 
 module _ (b : ℕ) where
   abbrev place : List ℕ → ℕ

@@ -1,6 +1,7 @@
 -- Private to the readers of a lent text: its first line, and what follows.
 use Rattle.std.specs.Prelude.{ℕ, suc, cond, ◌≡◌, List, [], ◌∷◌, ◌++◌, eqb, length, drop}
 use Rattle.text.specs.Desk.{line_feed}
+use Rattle.text.specs.Lines.{Lacks}
 
 -- the bytes before the first line feed, or all where there is none
 unfoldable pub first_line : List ℕ → List ℕ
@@ -11,12 +12,7 @@ first_line (b ∷ s) = cond (eqb b line_feed) [] (b ∷ first_line s)
 abbrev pub after_line : List ℕ → List ℕ
 after_line s = drop (suc (length (first_line s))) s
 
--- bytes without this one
-abbrev pub Lacks : ℕ → List ℕ → Type 0
-Lacks b [] = Unit {0}
-Lacks b (c ∷ s) = (c ≡ b → ⊥) × Lacks b s
-
--- a text is what stands before the first such byte, the byte, and what stands behind it
+-- a text is what stands before the first byte b, that byte, and what stands behind it
 pub record Parted (b : ℕ) (text before behind : List ℕ) : Type 0 where
   pub lacks : Lacks b before
   pub parts : text ≡ before ++ (b ∷ behind)

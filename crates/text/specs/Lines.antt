@@ -18,10 +18,14 @@ lines_from l (b ∷ s) = cond (eqb b line_feed) (l ∷ lines_from [] s) (lines_f
 abbrev pub lines_of : List ℕ → List (List ℕ)
 lines_of s = lines_from [] s
 
+-- bytes without this one among them
+abbrev pub Lacks : ℕ → List ℕ → Type 0
+Lacks b [] = Unit {0}
+Lacks b (c ∷ s) = (c ≡ b → ⊥) × Lacks b s
+
 -- bytes with no line feed among them
 abbrev pub OneLine : List ℕ → Type 0
-OneLine [] = Unit {0}
-OneLine (b ∷ l) = (b ≡ line_feed → ⊥) × OneLine l
+OneLine s = Lacks line_feed s
 
 -- what a line is: any bytes up to a line feed, or up to the end of the input if there are any
 pub record Lines : Type 0 where

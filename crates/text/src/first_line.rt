@@ -1,6 +1,7 @@
 // A lent text at the first place of a byte, and by its first line.
 ghost use Rattle.std.specs.Prelude.{◌≡◌, MatchOption};
-ghost use Rattle.text.specs.FirstLine.{Lacks, Parted, first_line, after_line};
+ghost use Rattle.text.specs.Lines.{Lacks};
+ghost use Rattle.text.specs.FirstLine.{Parted, first_line, after_line};
 
 // What stands before the first such byte, and what behind it, as std says it of a str; none of a text that lacks it.
 pub(crate) fn split_once(text: &[u8], byte: u8) -> Option<(&[u8], &[u8])>

@@ -10,11 +10,11 @@ use lib.ListN.{set as store, length, replicate, length-set, length-replicate}
 use lib.IntN.{ℤ, pos}
 use Rattle.figuring.specs.Years.{first_year, last_year}
 use Rattle.book.specs.Sizes.{makers, sets, cells, families, places, all_parts}
-use Rattle.book.specs.Below.{sum_below_ℤ}
+use Rattle.book.specs.Below.{only, sum_below_ℤ}
 use Rattle.book.specs.Ledger.{Key, key, In, cell, figure_at, lower, raise, part_at, cell_sum}
 use Rattle.book.specs.Postings.{netted, moved}
 use Rattle.book.specs.Accounts.{Accounts, Column, bought, sold, applied, retired, covered}
-use Rattle.book.specs.Accounts.{same_key, only, put, in_year, with_mg}
+use Rattle.book.specs.Accounts.{same_key, put, in_year, with_mg}
 use Rattle.book.specs.Demand3.{Reconciled}
 use Rattle.book.specs.declared.ledger.Book.{Book}
 use Rattle.book.proofs.LedgerLaws.{at_raise, at_lower, length_raise, length_lower, netted_length, netted_in, netted_out, same_cell, other_year, part_stored, no_part}
@@ -116,6 +116,7 @@ module _ {Y : ℕ} {parts : List ℤ} {last : Key → ℕ → ℤ} (h : Families
 
 -- ---- a book and accounts that agree. Soundness is no part of it: an accepted call shows it by the head.
 pub record Agree (b : Book) (a : Accounts) : Type 0 where
+  pub year : a.open_year ≡ b.open_year
   pub families : Families b.open_year b.parts a.last
   pub lots :
       Tied b.open_year b.lots a.earned (λ k. a.opening.lot k + a.mg bought k)
@@ -129,7 +130,8 @@ pub agree_moved :
     (λ k. g sold k + g applied k + g retired k)
     → Tied b.open_year s a.shortfall a.opening.shortage (g covered)
     → Agree (moved b l s) (with_mg a g)
-agree_moved g h lots shortages = record { families = h.families; lots = lots; shortages = shortages }
+agree_moved g h lots shortages =
+    record { year = h.year; families = h.families; lots = lots; shortages = shortages }
 
 pub agree_reconciled : (b : Book) (a : Accounts) → Agree b a → (k : Key) → In k → Reconciled b a k
 agree_reconciled b a h k i =

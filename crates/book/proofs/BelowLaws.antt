@@ -12,8 +12,7 @@ use borrow.Author.Tests.{eq-eqb, ne_eqb}
 use lib.Dec.{eqb}
 use lib.IntN.{ℤ, pos, nat_abs, ◌+ℤ◌}
 use Rattle.figuring.proofs.SignedLaws.{abs_add}
-use Rattle.book.specs.Accounts.{only}
-use Rattle.book.specs.Below.{sum_below, sum_below_ℤ, count_below, one_if}
+use Rattle.book.specs.Below.{only, sum_below, sum_below_ℤ, count_below, one_if}
 
 -- ---- an amount under a condition
 pub only_most : (t : Bool) (n : ℕ) → only t n ≤ n
@@ -39,6 +38,11 @@ pub only_some : (t : Bool) (n q : ℕ) → q < only t n → (t ≡ true) × (q <
 unfolding only
 only_some true n q h = (refl, h)
 only_some false n q h = absurd (omega arith)
+
+pub only_alike : (t : Bool) (x y : ℕ) → (t ≡ true → x ≡ y) → only t x ≡ only t y
+unfolding only
+only_alike true x y h = h refl
+only_alike false x y h = refl
 
 pub only_less : (t : Bool) (x q z : ℕ) → x + q ≡ z → only t x + only t q ≡ only t z
 unfolding only

@@ -13,7 +13,7 @@ use Rattle.figuring.specs.Tables.{Table}
 use Rattle.figuring.proofs.LifeLaws.{Live, OpenShort}
 use Rattle.book.specs.Refusals.{Answered}
 use Rattle.book.specs.Sizes.{makers, sets, years, places, shortage_most}
-use Rattle.book.specs.Accounts.{only}
+use Rattle.book.specs.Below.{only}
 use Rattle.book.specs.Ledger.{key, In, figure_at, lower}
 use Rattle.book.specs.Postings.{application_done}
 use Rattle.book.specs.Coverage.{Payment}

@@ -114,6 +114,7 @@ close_agrees t b a y h g =
     let s = sound_is b g.sound in
     rw g.year
     (record {
+      year = ap (λ (Y : ℕ). Y + 1) h.year;
       families = families_clear h.families;
       lots =
           tied_net h.lots (earned_by b) (earned_at a) g.from g.upto

@@ -10,17 +10,16 @@ use lib.Dec.{eqb}
 use lib.ListN.{get_or, set as store, length}
 use lib.Seq.{set-get_or}
 use Rattle.figuring.specs.Life.{live, open_short}
-use Rattle.figuring.specs.Tables.{built_in}
 use Rattle.book.specs.Sizes.{makers, sets, places, all_closed}
-use Rattle.book.specs.Accounts.{same_key, only}
+use Rattle.book.specs.Below.{only}
+use Rattle.book.specs.Accounts.{same_key}
 use Rattle.book.specs.Ledger.{Key, key, In, place, figure_at, lower}
 use Rattle.book.specs.Soundness.{sound}
 use Rattle.book.specs.Refusals.{first_refusal}
 use Rattle.book.specs.Postings.{application_done}
-use Rattle.book.specs.Coverage.{Standing, Turn, turn, amount, after, paying, payments}
+use Rattle.book.specs.Coverage.{Standing, Turn, turn, Payment, amount, after, paying, payments}
 use Rattle.book.specs.Covering.{application, in_lists, in_book, lots_paid, shortages_paid}
-use Rattle.book.specs.Rules.{apply_rows, done}
-use Rattle.book.specs.Companions.{Sized}
+use Rattle.book.specs.Rules.{apply_rows}
 use Rattle.book.specs.declared.ledger.Book.{Book}
 use Rattle.book.specs.declared.kinds.Application.{Application}
 use Rattle.book.specs.declared.kinds.Cover.{Cover}
@@ -28,8 +27,8 @@ use Rattle.std.specs.Prelude.{Ok}
 use Rattle.book.proofs.BelowLaws.{only_most, only_some}
 use Rattle.book.proofs.LedgerLaws.{at_lower, length_lower}
 use Rattle.book.proofs.SoundnessLaws.{is_sound}
-use Rattle.book.proofs.MoveFacts.{Applicable, applicable, live_in, open_in}
-use Rattle.book.proofs.MovingLaws.{apply_lawful}
+use Rattle.book.proofs.MoveFacts.{applicable, live_in, open_in}
+use Rattle.book.proofs.MovingLaws.{apply_sound}
 use Rattle.book.proofs.TurnLaws.{still, left_after}
 
 -- ---- a figure of a cell lowered
@@ -133,16 +132,6 @@ module _ (Y : ℕ) (c : Cover) (hm : c.maker < makers) (hs : c.set < sets) (upto
           subst (Stand (lower l kv (suc n)) (lower s ky (suc n))) (sym w)
           (r (lower l kv (suc n)) (lower s ky (suc n)) (length_lower _ _ _ ∙ zl) (length_lower _ _ _ ∙ zs))
 
--- ---- an application that is taken keeps the lengths and a sound book sound; it reads no table, so any one will do here
-module _ (b : Book) (p : Application) (z : Sized b) (g : Applicable b p) where
-  applied_sized : Sized (application_done b p).book
-  unfolding done
-  applied_sized = (apply_lawful built_in b p g).sized z
-
-  applied_sound : sound (application_done b p).book ≡ true
-  unfolding done
-  applied_sound = is_sound (application_done b p).book ((apply_lawful built_in b p g).sound z)
-
 -- ---- applications that are taken, each where the one before left the book
 abbrev pub AllTaken : Book → List Application → Type 0
 AllTaken b [] = Unit {0}
@@ -177,19 +166,20 @@ module _ (c : Cover) (hm : c.maker < makers) (hs : c.set < sets) where
       )
 
   pub all_taken :
-      (ts : List Turn) (b : Book) → Sized b → sound b ≡ true
+      (ts : List Turn) (b : Book) → length b.lots ≡ places → length b.shortages ≡ places → sound b ≡ true
       → AllTaken b (map (application c) (payments (in_book b c) ts))
   unfolding payments application_done
-  all_taken [] b z so = tt
-  all_taken (t ∷ ts) b z so = go (amount (in_book b c) t) refl (all_taken ts)
+  all_taken [] b zl zs so = tt
+  all_taken (t ∷ ts) b zl zs so = go (amount (in_book b c) t) refl (all_taken ts)
     where
       go :
           (n : ℕ) → amount (in_book b c) t ≡ n
-          → ((d : Book) → Sized d → sound d ≡ true → AllTaken d (map (application c) (payments (in_book d c) ts)))
+          → ((d : Book) → length d.lots ≡ places → length d.shortages ≡ places → sound d ≡ true
+          → AllTaken d (map (application c) (payments (in_book d c) ts)))
           → AllTaken b (map (application c) (paying t n (payments (after (in_book b c) t) ts)))
       go zero e r =
           subst (λ (h : Standing). AllTaken b (map (application c) (payments h ts))) (sym (still (in_book b c) t e))
-          (r b z so)
+          (r b zl zs so)
       go (suc n) e r =
           let p = paid t (suc n) in
           let a = accepts b t n e in
@@ -197,9 +187,38 @@ module _ (c : Cover) (hm : c.maker < makers) (hs : c.set < sets) where
           let d = (application_done b p).book in
           let w : after (in_book b c) t ≡ in_book d c =
           turn_stands b.open_year c b.lots b.shortages hm hs g.payer.sound.high t.vintage t.year
-          (suc n) g.payer.lot g.covered (sym e) z.lots z.shortages in (
+          (suc n) g.payer.lot g.covered (sym e) zl zs in (
             so,
             a,
             subst (λ (h : Standing). AllTaken d (map (application c) (payments h ts))) (sym w)
-                (r d (applied_sized b p z g) (applied_sound b p z g)),
+                (r d (length_lower _ _ _ ∙ zl) (length_lower _ _ _ ∙ zs) (is_sound d (apply_sound b p zl zs g))),
           )
+
+-- ---- no payment is of another than a live vintage and an open shortage
+pub record Alive (Y : ℕ) (h : Standing) : Type 0 where
+  pub lot : (v : ℕ) → 0 < h.lots v → live Y v ≡ true
+  pub short : (y : ℕ) → 0 < h.shorts y → open_short Y y ≡ true
+
+abbrev pub AllAlive : ℕ → List Payment → Type 0
+AllAlive Y [] = Unit {0}
+AllAlive Y (p ∷ ps) = (live Y p.vintage ≡ true) × (open_short Y p.year ≡ true) × AllAlive Y ps
+
+alive_after : (Y : ℕ) (h : Standing) (t : Turn) → Alive Y h → Alive Y (after h t)
+unfolding after
+alive_after Y h t a = record { lot = λ v o. a.lot v (omega arith); short = λ y o. a.short y (omega arith) }
+
+pub payments_alive : (Y : ℕ) (ts : List Turn) (h : Standing) → Alive Y h → AllAlive Y (payments h ts)
+unfolding payments
+payments_alive Y [] h a = tt
+payments_alive Y (t ∷ ts) h a = go (amount h t) refl (payments_alive Y ts (after h t) (alive_after Y h t a))
+  where
+    go : (n : ℕ) → amount h t ≡ n → AllAlive Y (payments (after h t) ts) → AllAlive Y (paying t n (payments (after h t) ts))
+    go zero e r = r
+    go (suc n) e r = (a.lot t.vintage (omega arith), a.short t.year (omega arith), r)
+
+pub lists_alive : (Y : ℕ) (l s : List ℕ) (c : Cover) → Alive Y (in_lists Y l s c)
+lists_alive Y l s c =
+    record {
+      lot = λ v o. (only_some (live Y v) _ 0 o).0;
+      short = λ y o. (only_some (open_short Y y) _ 0 o).0;
+    }

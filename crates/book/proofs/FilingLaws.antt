@@ -127,6 +127,7 @@ file_agrees :
 unfolding stored
 file_agrees t b a f h g =
     record {
+      year = h.year;
       families =
           families_put h.families f.maker f.set f.family f.year (part_for t f) g.maker g.set g.family
           g.year;

@@ -7,7 +7,7 @@ use Rattle.book.specs.Orders.{Among, without, Reordered}
 use Rattle.book.specs.FilingOrder.{Lodged, named_by, NoTwoAlike, filings, after_filings, count_aside}
 use Rattle.book.specs.FilingOrder.{FilingOrder, SaysNoLess, MadeBy, EachAlone}
 use Rattle.book.specs.declared.ledger.Book.{Book}
-use Rattle.book.specs.declared.answers.Answer.TheVariants.{Filed, Closed, Left}
+use Rattle.book.specs.declared.answers.Answer.TheVariants.{Filed, Closed, Left, Covered}
 use Rattle.std.specs.Prelude.{Ok, Err}
 use Rattle.book.proofs.KeptSound.{sized_after}
 use Rattle.book.proofs.AmongLaws.{none_among, Stands, is_first, in_rest, stands}
@@ -68,6 +68,7 @@ counted (Err r) z = Err r
 counted (Ok (Filed p n)) z = Ok (Filed p (nat_abs z))
 counted (Ok (Closed n)) z = Ok (Closed n)
 counted (Ok (Left m)) z = Ok (Left m)
+counted (Ok (Covered m)) z = Ok (Covered m)
 
 rebuilt : (a : Answered) → counted (count_aside a) (result_in a 1) ≡ a
 unfolding values_in
@@ -75,6 +76,7 @@ rebuilt (Err r) = refl
 rebuilt (Ok (Filed p n)) = refl
 rebuilt (Ok (Closed n)) = refl
 rebuilt (Ok (Left m)) = refl
+rebuilt (Ok (Covered m)) = refl
 
 pub says_no_less : SaysNoLess
 says_no_less =

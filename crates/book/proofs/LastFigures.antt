@@ -34,6 +34,7 @@ module _ (k : Key) (family : ℕ) where
   leaves t a (Call.Trade x) true n = refl
   leaves t a (Call.Apply p) true n = refl
   leaves t a (Call.Retire p) true n = refl
+  leaves t a (Call.Cover c) true n = refl
 
   leaves_all : (es : List Entry) (a : Accounts) → NoneOf es k family → (feed_all a es).last k family ≡ a.last k family
   unfolding feed_all feed

@@ -1,5 +1,6 @@
--- What the theorems need of an accepted call, as one record. Each call proves its own (FilingLaws, ClosingLaws, MovingLaws), and
--- CallLaws finds it by the call: so kept soundness, demand 3 and the figures that stay name no call.
+-- What the theorems need of an accepted call, as one record. Each call proves its own (FilingLaws, ClosingLaws, MovingLaws,
+-- CoverLaws), and CallLaws finds it by the call: so kept soundness and the figures that stay name no call, nor does demand 3 but for
+-- what it says of applications and covers alone.
 use Prim.Native.Nat.{◌≤◌}
 use mathlib.Core.Bool.{true}
 use mathlib.Core.Path.{◌≡◌}

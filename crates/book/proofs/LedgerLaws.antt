@@ -15,9 +15,10 @@ use lib.IntN.{ℤ, pos}
 use Rattle.figuring.specs.Years.{first_year, last_year}
 use Rattle.figuring.proofs.BoolLaws.{both}
 use Rattle.book.specs.Sizes.{sets, cells, families, years, places, all_parts}
+use Rattle.book.specs.Below.{only}
 use Rattle.book.specs.Ledger.{Key, key, In, place, figure_at, lower, raise, cell, part_at}
 use Rattle.book.specs.Postings.{netted}
-use Rattle.book.specs.Accounts.{same_key, only}
+use Rattle.book.specs.Accounts.{same_key}
 
 -- two keys in range are the same key or have other indices
 same_false : (k j : Key) → In k → In j → same_key k j ≡ false → place j ≢ place k

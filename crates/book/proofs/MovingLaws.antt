@@ -9,8 +9,9 @@ use lib.ListN.{length}
 use Rattle.figuring.specs.Years.{first_year}
 use Rattle.figuring.specs.Tables.{Table}
 use Rattle.book.specs.Sizes.{sets, years, places}
+use Rattle.book.specs.Below.{only}
 use Rattle.book.specs.Ledger.{Key, In, figure_at, lower, raise}
-use Rattle.book.specs.Accounts.{Accounts, move, only}
+use Rattle.book.specs.Accounts.{Accounts, move}
 use Rattle.book.specs.Rules.{done}
 use Rattle.book.specs.Demand3.{is_accepted}
 use Rattle.book.specs.Postings.{moved, trade_done, application_done, retirement_done}
@@ -112,19 +113,22 @@ trade_lawful t b x g =
     }
 
 -- ---- apply
-apply_sound : (b : Book) (p : Application) → Sized b → Applicable b p → Sound (application_done b p).book
+-- of the lengths it needs these two alone
+pub apply_sound :
+    (b : Book) (p : Application) → length b.lots ≡ places → length b.shortages ≡ places → Applicable b p
+    → Sound (application_done b p).book
 unfolding application_done
-apply_sound b p z g =
+apply_sound b p zl zs g =
     let s = g.payer.sound in
     let lot = g.payer.lot in
     let paid = g.payer.enough in
     moved_sound b (lower b.lots (applied_lot p) p.mg) (lower b.shortages (covered_shortage p) p.mg) s (record {
-      shortage = falls b.shortages (covered_shortage p) p.mg z.shortages g.covered g.enough;
-      ahead = λ k i y. falls b.lots (applied_lot p) p.mg z.lots lot paid k i;
-      total = total_falls b.lots (applied_lot p) p.mg z.lots lot paid;
+      shortage = falls b.shortages (covered_shortage p) p.mg zs g.covered g.enough;
+      ahead = λ k i y. falls b.lots (applied_lot p) p.mg zl lot paid k i;
+      total = total_falls b.lots (applied_lot p) p.mg zl lot paid;
     })
 
-apply_agrees :
+pub apply_agrees :
     (t : Table) (b : Book) (a : Accounts) (p : Application) → Agree b a → Applicable b p
     → Agree (application_done b p).book (move t a (Call.Apply p))
 unfolding application_done only
@@ -141,7 +145,7 @@ apply_lawful t b p g =
       answered = refl;
       onward = omega arith;
       sized = λ z. moved_sized z (simp length_lower z.lots) (simp length_lower z.shortages);
-      sound = λ z. apply_sound b p z g;
+      sound = λ z. apply_sound b p z.lots z.shortages g;
       agrees = λ a h. apply_agrees t b a p h g;
       lot = λ k i o.
           lower_elsewhere b.lots (applied_lot p) k p.mg g.payer.lot i (omega (arith, o, g.payer.live));

@@ -8,26 +8,28 @@ use native.Mathlib.Omega.{arith}
 use native.Mathlib.Decide.{dec_le}
 use borrow.Author.Tests.{leb-true, leb-false}
 use lib.Dec.{leb}
+use lib.IntN.{pos, nat_abs}
 use Rattle.figuring.specs.Years.{first_year}
-use Rattle.figuring.specs.Life.{closed_year, live, open_short}
+use Rattle.figuring.specs.Life.{live, open_short}
 use Rattle.figuring.specs.Tables.{Table, built_in}
 use Rattle.figuring.proofs.BoolLaws.{both}
 use Rattle.figuring.proofs.LifeLaws.{Live, live_is, open_is, is_live, is_open}
 use Rattle.book.specs.Sizes.{years}
+use Rattle.book.specs.Below.{only}
 use Rattle.book.specs.Ledger.{key, figure_at}
 use Rattle.book.specs.Soundness.{sound}
-use Rattle.book.specs.Refusals.{first_refusal}
+use Rattle.book.specs.Refusals.{first_refusal, values_in, result_in}
 use Rattle.book.specs.Postings.{application_done}
-use Rattle.book.specs.Coverage.{Standing, Payment, after, payments, rising, turns, coverage, total}
+use Rattle.book.specs.Coverage.{Standing, Payment, coverage, total}
 use Rattle.book.specs.Covering.{application, applications_of, in_book, lots_paid, shortages_paid}
-use Rattle.book.specs.Covering.{all_applied, after_cover, moved_by, cover_rows, Coverable}
+use Rattle.book.specs.Covering.{all_applied, moved_by, cover_done}
 use Rattle.book.specs.Paying.{all_turns}
-use Rattle.book.specs.Rules.{head_rows, own_rows, apply_rows, posted, done}
-use Rattle.book.specs.Accounts.{Entry, as_accepted, only}
+use Rattle.book.specs.Rules.{own_rows, apply_rows, posted, done}
+use Rattle.book.specs.Accounts.{Entry, as_accepted}
 use Rattle.book.specs.Demand3.{is_accepted, history, book_after}
 use Rattle.book.specs.Companions.{Sized}
 use Rattle.book.specs.OldestFirst.{WordForWord, sum_over, live_lots, open_shortages, lots_from, as_calls, as_entries, covered_by}
-use Rattle.book.specs.OldestFirst.{PaysOldest, OldestFirst, ByHand, AskedOfCover, NoneBetter}
+use Rattle.book.specs.OldestFirst.{AcceptedExactly, PaysOldest, OldestFirst, NoneBetter}
 use Rattle.book.specs.declared.ledger.Book.{Book}
 use Rattle.book.specs.declared.kinds.Call.{Call}
 use Rattle.book.specs.declared.kinds.Application.{Application}
@@ -35,12 +37,12 @@ use Rattle.book.specs.declared.kinds.Cover.{Cover}
 use Rattle.book.specs.declared.answers.Posted.{Posted}
 use Rattle.std.specs.Prelude.{Ok}
 use Rattle.book.proofs.BelowLaws.{only_never, only_falls, only_first, only_either, either_zero}
-use Rattle.book.proofs.TableLaws.{sound_head, own_decide}
+use Rattle.book.proofs.TableLaws.{sound_head, own_decide, by_verdict}
 use Rattle.book.proofs.SoundnessLaws.{Sound, sound_is}
 use Rattle.book.proofs.TurnLaws.{left_after, used, kept}
 use Rattle.book.proofs.WordLaws.{word_for_word_lem, only_one}
 use Rattle.book.proofs.CoverTurns.{turns_stand, AllTaken}
-use Rattle.book.proofs.CoverLaws.{unrefused, cover_taken}
+use Rattle.book.proofs.CoverLaws.{Coverable, coverable, accepted_cover, posted_cover, cover_taken}
 use Rattle.book.proofs.CellSums.{sum_most, shortages_small, lots_fall, lots_conserved, lots_alike, shortages_conserved}
 
 -- ---- applications that are all taken, put to the book one by one
@@ -75,7 +77,7 @@ module _ (t : Table) where
       rw (taken_posted b (application c x) h.0 h.1)
       (ap (λ (n : ℕ). x.mg + n) (taken_total c xs (application_done b (application c x)).book h.2))
 
--- ---- a cover that nothing refuses
+-- ---- a cover that is accepted
 module _ (t : Table) (b : Book) (c : Cover) (z : Sized b) (g : Coverable b c) where
   abbrev Y : ℕ
   Y = b.open_year
@@ -88,7 +90,7 @@ module _ (t : Table) (b : Book) (c : Cover) (z : Sized b) (g : Coverable b c) wh
   own = applications_of c (in_book b c)
 
   abbrev end : Book
-  end = after_cover b c
+  end = all_applied b own
 
   abbrev rest : Standing
   rest = left_after (in_book b c) all_turns
@@ -97,7 +99,7 @@ module _ (t : Table) (b : Book) (c : Cover) (z : Sized b) (g : Coverable b c) wh
   soundly = sound_is b g.is_sound
 
   taken : AllTaken b own
-  taken = cover_taken b c z g
+  taken = cover_taken b c g z.lots z.shortages
 
   own_book : book_after b (as_calls t own) ≡ end
   own_book = taken_book t own b taken
@@ -218,30 +220,39 @@ module _ (t : Table) (b : Book) (c : Cover) (z : Sized b) (g : Coverable b c) wh
       })
 
   pays_oldest : PaysOldest t b c
+  unfolding cover_done values_in
   pays_oldest =
       record {
-        pays = unrefused b c g;
         word_for_word = words;
         only_one = λ ps w. only_one ps (coverage (in_book b c)) (in_book b c) w words;
         all_accepted = taken_history t own b taken;
-        same_book = own_book;
-        moves = sym own_total;
-        smaller = smaller_total;
+        same_book = rw (posted_cover t b c g) own_book;
+        answers = rw (posted_cover t b c g, own_total);
+        smaller = own_total ∙ smaller_total;
       }
 
+pub accepted_exactly : (t : Table) (b : Book) (c : Cover) → AcceptedExactly t b c
+unfolding cover_done is_accepted
+accepted_exactly t b c = (
+  λ a. let g = accepted_cover t b c a in (g.is_sound, g.maker, g.set),
+  λ h. rw (posted_cover t b c (record { is_sound = h.0; maker = h.1; set = h.2 })) refl,
+)
+
 pub oldest_first : (t : Table) (b : Book) (c : Cover) → OldestFirst t b c
-oldest_first t b c z g = pays_oldest t b c z g
+oldest_first t b c z a = pays_oldest t b c z (accepted_cover t b c a)
 
-pub by_hand : ByHand
-unfolding coverage payments turns rising after only live open_short closed_year
-by_hand = refl
-
-pub asked : (b : Book) (c : Cover) → AskedOfCover b c
-unfolding head_rows cover_rows
-asked b c = refl
-
+-- a refused one leaves the book as it was, and lots only fall
 pub none_better : (t : Table) (b : Book) (c : Cover) → NoneBetter t b c
-none_better t b c z g v others h = at_least t b c z g v others h
+unfolding own_rows done cover_done values_in
+none_better t b c z v n others =
+    by_verdict t b (Call.Cover c)
+    (λ q. result_in q.answer 0 ≡ pos n → n ≤ covered_by t b (map (application c) others)
+    → lots_from v (book_after b (as_calls t (map (application c) others))) c ≤ lots_from v q.book c)
+    (λ r e h. lots_fall t c (leb v) others b z)
+    (λ s e m h. at_least t b c z (coverable b c s e) v others (omega (arith, h, moved_is m)))
+  where
+    moved_is : pos (moved_by b c) ≡ pos n → moved_by b c ≡ n
+    moved_is m = ap nat_abs m
 
 -- ---- what a cover moves is far below 2 ^ 64; applications read no table, so any one will do here
 pub moved_small : (b : Book) (c : Cover) → Sized b → Coverable b c → moved_by b c < 2 ^ 64

@@ -41,7 +41,8 @@ twenty t b f =
 
 pub reads_none : (t u : Table) (b : Book) → ReadNoTable t u b
 unfolding posted rows_for own_rows done
-reads_none t u b = record { close = λ y. refl; trade = λ x. refl; apply = λ p. refl; retire = λ p. refl }
+reads_none t u b =
+    record { close = λ y. refl; trade = λ x. refl; apply = λ p. refl; retire = λ p. refl; cover = λ c. refl }
 
 -- ---- the bound
 pub within_bound : (t : Table) (b : Book) (f : Filing) → WithinBound t b f
@@ -55,3 +56,4 @@ as_before b (Call.Close y) = refl
 as_before b (Call.Trade x) = refl
 as_before b (Call.Apply p) = refl
 as_before b (Call.Retire p) = refl
+as_before b (Call.Cover c) = refl

@@ -8,11 +8,11 @@ use lib.ListN.{length}
 use Rattle.figuring.specs.Years.{first_year, last_year}
 use Rattle.figuring.specs.Life.{open_short}
 use Rattle.book.specs.Sizes.{years, places}
-use Rattle.book.specs.Accounts.{only}
+use Rattle.book.specs.Below.{only}
 use Rattle.book.specs.Ledger.{Key, key, lower}
 use Rattle.book.specs.Places.{key_of, cell_of}
 use Rattle.book.specs.Coverage.{Standing, Turn, turn, Payment, amount, after, paying, payments, rising, turns, model_years, coverage, total}
-use Rattle.book.specs.Covering.{application, in_lists, in_book, lots_paid, shortages_paid, all_applied, moved_by, Coverable}
+use Rattle.book.specs.Covering.{application, in_lists, in_book, lots_paid, shortages_paid, all_applied, moved_by}
 use Rattle.book.specs.Postings.{moved}
 use Rattle.book.specs.Paying.{turns_of, all_turns, paid_in, Payable, Paid}
 use Rattle.book.specs.Companions.{Sized}
@@ -24,7 +24,7 @@ use Rattle.book.proofs.PlaceLaws.{counted, counted_on}
 use Rattle.book.proofs.SoundnessLaws.{sound_is}
 use Rattle.book.proofs.TurnLaws.{still, left_after}
 use Rattle.book.proofs.CoverTurns.{lower_none, turns_stand}
-use Rattle.book.proofs.CoverLaws.{lots_length, shortages_length}
+use Rattle.book.proofs.CoverLaws.{Coverable, lots_length, shortages_length}
 
 -- ---- turns after turns
 payments_append :

@@ -1,7 +1,7 @@
 -- Demand 3: the relation `Agree` between a book and accounts, which every call keeps, whatever the book and the accounts that it
 -- begins with. Any book agrees with the accounts that it opens.
 -- What an accepted call keeps comes from its record, `Lawful`. Nothing here looks into a call's rows, the figuring, the tests of
--- soundness and life, or the limits; and no call is named but the application, of which demand 3 says more.
+-- soundness and life, or the limits; and no call is named but the application and the cover, of which demand 3 says more.
 use Prim.Native.Nat.{ℕ}
 use mathlib.Core.Bool.{true}
 use mathlib.Core.List.{List, [], ◌∷◌, ◌++◌}
@@ -12,17 +12,22 @@ use borrow.Author.Tests.{eq-eqb, ne_eqb}
 use lib.IntN.{pos}
 use Rattle.figuring.specs.Tables.{Table}
 use Rattle.book.specs.Ledger.{Key, key, cell, part_at}
-use Rattle.book.specs.Postings.{covered_shortage}
+use Rattle.book.specs.Postings.{covered_shortage, application_done}
+use Rattle.book.specs.Covering.{applications_of, in_book}
 use Rattle.book.specs.Rules.{Request, own_rows, posted, posted_to}
-use Rattle.book.specs.Accounts.{Accounts, Entry, as_accepted, begun_with, feed, feed_all, accounts_from}
-use Rattle.book.specs.Demand3.{is_accepted, entry_of, history, book_after, opening_of, Covers, Demand3}
+use Rattle.book.specs.Accounts.{Accounts, Entry, as_accepted, begun_with, feed, feed_all, accounts_from, move, made_by}
+use Rattle.book.specs.Demand3.{is_accepted, entry_of, history, book_after, opening_of, Covers, InTurn, Demand3}
 use Rattle.book.specs.Companions.{Sized}
 use Rattle.book.specs.declared.ledger.Book.{Book}
 use Rattle.book.specs.declared.kinds.Call.{Call}
 use Rattle.book.specs.declared.kinds.Application.{Application}
+use Rattle.book.specs.declared.kinds.Cover.{Cover}
 use Rattle.book.proofs.TableLaws.{by_verdict}
 use Rattle.book.proofs.MoveFacts.{Applicable, applicable}
+use Rattle.book.proofs.MovingLaws.{apply_agrees}
 use Rattle.book.proofs.Balances.{Agree, agree_reconciled}
+use Rattle.book.proofs.CoverTurns.{AllTaken}
+use Rattle.book.proofs.CoverLaws.{accepted_cover, cover_taken, same_standing}
 use Rattle.book.proofs.CallLaws.{lawful}
 
 -- ---- the beginning
@@ -39,6 +44,7 @@ opening_else b k f h = rw (ne_eqb k.year b.open_year h)
 pub begins : (b : Book) → Sized b → Agree b (begun_with (opening_of b))
 begins b z =
     record {
+      year = refl;
       families =
           record {
             size = z.parts;
@@ -83,21 +89,42 @@ covers t b a p h =
     by_verdict t b (Call.Apply p) (λ q. is_accepted q.answer ≡ true → Covers a p)
     (λ r d. absurd (let z : ◌≡◌ {A = ℕ} 0 1 = cc in omega arith)) (λ s e d. covers_done b a p h (applicable b p s e))
 
-pub covers_all :
-    (rs : List Request) (b : Book) (a : Accounts) → Agree b a → (before after : List Entry) (t : Table) (p : Application)
-    → history b rs ≡ before ++ as_accepted t (Call.Apply p) ∷ after → Covers (feed_all a before) p
+-- ---- the applications that accepted covers made
+each_covers :
+    (t : Table) (ps : List Application) (b : Book) (a : Accounts) → AllTaken b ps → Agree b a → InTurn Covers a ps
+each_covers t [] b a h g = tt
+each_covers t (p ∷ ps) b a h g =
+    let w = applicable b p h.0 h.1 in (
+      covers_done b a p g w,
+      each_covers t ps (application_done b p).book (move t a (Call.Apply p)) h.2 (apply_agrees t b a p g w),
+    )
+
+made :
+    (t : Table) (b : Book) (a : Accounts) (c : Cover) → Agree b a
+    → is_accepted (posted t b (Call.Cover c)).answer ≡ true → InTurn Covers a (made_by a c)
+made t b a c h d =
+    let g = accepted_cover t b c d in
+    rw (same_standing b c g a h)
+    (each_covers t (applications_of c (in_book b c)) b a (cover_taken b c g h.lots.size h.shortages.size) h)
+
+-- ---- what holds of a call that a book accepted, by any accounts that it agrees with, holds wherever the call stands in a list
+wherever :
+    (P : Accounts → Type 0) (x : Call)
+    → ((t : Table) (b : Book) (a : Accounts) → Agree b a → is_accepted (posted t b x).answer ≡ true → P a)
+    → (rs : List Request) (b : Book) (a : Accounts) → Agree b a → (before after : List Entry) (t : Table)
+    → history b rs ≡ before ++ as_accepted t x ∷ after → P (feed_all a before)
 unfolding history feed_all
-covers_all [] b a h [] after t p e = absurd (let z : ◌≡◌ {A = ℕ} 0 1 = cc in omega arith)
-covers_all [] b a h (x ∷ before) after t p e = absurd (let z : ◌≡◌ {A = ℕ} 0 1 = cc in omega arith)
-covers_all (r ∷ rs) b a h [] after t p e =
-    let q : entry_of b r ≡ as_accepted t (Call.Apply p) = cc in
-    let qc : r.call ≡ Call.Apply p = ap (λ (x : Entry). x.call) q in
-    let qa : is_accepted (posted_to b r).answer ≡ true = ap (λ (x : Entry). x.accepted) q in
-    covers r.table b a p h (rw qc at qa)
-covers_all (r ∷ rs) b a h (x ∷ before) after t p e =
-    let q : entry_of b r ≡ x = cc in
-    let w : history (posted_to b r).book rs ≡ before ++ as_accepted t (Call.Apply p) ∷ after = cc in
-    rw (← q) (covers_all rs (posted_to b r).book (feed a (entry_of b r)) (keeps b a r h) before after t p w)
+wherever P x f [] b a h [] after t e = absurd (let z : ◌≡◌ {A = ℕ} 0 1 = cc in omega arith)
+wherever P x f [] b a h (y ∷ before) after t e = absurd (let z : ◌≡◌ {A = ℕ} 0 1 = cc in omega arith)
+wherever P x f (r ∷ rs) b a h [] after t e =
+    let q : entry_of b r ≡ as_accepted t x = cc in
+    let qc : r.call ≡ x = ap (λ (y : Entry). y.call) q in
+    let qa : is_accepted (posted_to b r).answer ≡ true = ap (λ (y : Entry). y.accepted) q in
+    f r.table b a h (rw qc at qa)
+wherever P x f (r ∷ rs) b a h (y ∷ before) after t e =
+    let q : entry_of b r ≡ y = cc in
+    let w : history (posted_to b r).book rs ≡ before ++ as_accepted t x ∷ after = cc in
+    rw (← q) (wherever P x f rs (posted_to b r).book (feed a (entry_of b r)) (keeps b a r h) before after t w)
 
 -- ---- demand 3
 
@@ -105,6 +132,16 @@ pub demand3 : (b : Book) → Sized b → (rs : List Request) → Demand3 b rs
 unfolding accounts_from
 demand3 b z rs =
     record {
-      reconciled = agree_reconciled _ _ (keeps_all rs b (begun_with (opening_of b)) (begins b z));
-      covers = covers_all rs b (begun_with (opening_of b)) (begins b z);
+      reconciled = agree_reconciled _ _ (keeps_all rs b a₀ start);
+      year = (keeps_all rs b a₀ start).year;
+      covers = λ before after t p.
+          wherever (λ a. Covers a p) (Call.Apply p) (λ u d a. covers u d a p) rs b a₀ start before after t;
+      made = λ before after t c.
+          wherever (λ a. InTurn Covers a (made_by a c)) (Call.Cover c) (λ u d a. made u d a c) rs b a₀ start before after t;
     }
+  where
+    a₀ : Accounts
+    a₀ = begun_with (opening_of b)
+
+    start : Agree b a₀
+    start = begins b z

@@ -27,6 +27,7 @@ use Rattle.book.specs.Soundness.{sound, part_sound}
 use Rattle.book.specs.Refusals.{Row, first_refusal}
 use Rattle.book.specs.Postings.{fresh_book, part_for, part_beside, filing_cell, stored, cell_net, netted, close_done}
 use Rattle.book.specs.Postings.{trade_done, application_done, retirement_done}
+use Rattle.book.specs.Covering.{cover_done}
 use Rattle.book.specs.Rules.{Request, head_rows, table_rows, file_rows, own_rows, rows_for, done, outcome, posted}
 use Rattle.book.specs.FiveDecimals.{old_sound, old_limits, old_done, old_posted, SideBySide, SameSessions, SoundParts}
 use Rattle.book.specs.FiveDecimals.{restated_call, restated_book, restated_answer}
@@ -139,6 +140,7 @@ module _ (b : Book) where
   same_beside t (Call.Trade x) = refl
   same_beside t (Call.Apply p) = refl
   same_beside t (Call.Retire p) = refl
+  same_beside t (Call.Cover c) = refl
 
   same_rows : (t : Table) (c : Call) → own_rows t (restated_book b) (restated_call c) ≡ own_rows t b (old_limits c)
   unfolding own_rows file_rows
@@ -147,6 +149,7 @@ module _ (b : Book) where
   same_rows t (Call.Trade x) = refl
   same_rows t (Call.Apply p) = refl
   same_rows t (Call.Retire p) = refl
+  same_rows t (Call.Cover c) = refl
 
   -- ---- what an accepted call gives
   same_net : (c : ℕ) → cell_net engine_unit (restated_book b) c ≡ cell_net old_unit b c
@@ -156,7 +159,7 @@ module _ (b : Book) where
       ∙ net_finer (sum_below_ℤ families (part_at b.parts c))
 
   same_done : (t : Table) (c : Call) → done t (restated_book b) (restated_call c) ≡ restated_posted (old_done t b c)
-  unfolding done stored close_done part_beside trade_done application_done retirement_done
+  unfolding done stored close_done part_beside trade_done application_done retirement_done cover_done
   same_done t (Call.File f) =
       rw (part_finer _ f.fcl f.cf f.volume f.life, map_store b.parts (filing_cell f * families + f.family) (part_for t f))
   same_done t (Call.Close y) =
@@ -173,6 +176,7 @@ module _ (b : Book) where
   same_done t (Call.Trade x) = refl
   same_done t (Call.Apply p) = refl
   same_done t (Call.Retire p) = refl
+  same_done t (Call.Cover c) = refl
 
   -- ---- a call
   same_posted : (t : Table) (c : Call) → posted t (restated_book b) (restated_call c) ≡ restated_posted (old_posted t b c)

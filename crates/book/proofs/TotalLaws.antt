@@ -10,9 +10,9 @@ use borrow.Author.Tests.{eq-eqb, ne_eqb}
 use lib.ListN.{length}
 use Rattle.figuring.specs.Years.{first_year}
 use Rattle.book.specs.Sizes.{makers, sets, years, places}
-use Rattle.book.specs.Below.{sum_below}
+use Rattle.book.specs.Below.{only, sum_below}
 use Rattle.book.specs.Ledger.{Key, key, In, figure_at, lower, raise}
-use Rattle.book.specs.Accounts.{same_key, only}
+use Rattle.book.specs.Accounts.{same_key}
 use Rattle.book.proofs.LedgerLaws.{at_lower, at_raise, other_year}
 
 -- ---- sums

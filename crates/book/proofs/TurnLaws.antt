@@ -7,7 +7,7 @@ use mathlib.Core.Path.{◌≡◌, refl, ap}
 use native.Mathlib.Omega.{arith}
 use native.Mathlib.Decide.{ℕ_discrete}
 use lib.Dec.{eqb}
-use Rattle.book.specs.Accounts.{only}
+use Rattle.book.specs.Below.{only}
 use Rattle.book.specs.Coverage.{Standing, Turn, amount, after, rising, turn, turns}
 use Rattle.book.proofs.BelowLaws.{only_most, only_same, only_other}
 

@@ -1,14 +1,19 @@
 -- Document 01, "Accounts": fed, in list order, the calls' arguments other than the book and, of each answer, only
 -- whether it was a refusal. The types show it: an entry is a call, its table and a Bool, and nothing here takes a book.
-use Rattle.std.specs.Prelude.{ℕ, ◌+◌, Bool, true, false, cond, ◌&&◌, List, [], ◌∷◌, eqb, ℤ, pos}
+use Rattle.std.specs.Prelude.{ℕ, ◌+◌, ◌-◌, Bool, true, false, cond, ◌&&◌, List, [], ◌∷◌, eqb, ℤ, pos}
+use Rattle.figuring.specs.Years.{first_year}
 use Rattle.figuring.specs.Units.{engine_unit}
 use Rattle.figuring.specs.Tables.{Table}
 use Rattle.figuring.specs.Netting.{net_of, earned_of, shortfall_of}
 use Rattle.book.specs.Sizes.{families}
-use Rattle.book.specs.Below.{sum_below_ℤ}
-use Rattle.book.specs.Ledger.{Key}
+use Rattle.book.specs.Below.{only, sum_below_ℤ}
+use Rattle.book.specs.Ledger.{Key, key}
 use Rattle.book.specs.Postings.{part_for, filing_key, seller_lot, buyer_lot, applied_lot, covered_shortage, retired_lot}
+use Rattle.book.specs.Coverage.{Standing, standing}
+use Rattle.book.specs.Covering.{applications_of}
+use Rattle.book.specs.declared.kinds.Application.{Application}
 use Rattle.book.specs.declared.kinds.Call.{Call}
+use Rattle.book.specs.declared.kinds.Cover.{Cover}
 
 -- a call's arguments, the table that it is handed among them, and whether it was accepted: "answered without" a refusal
 pub record Entry : Type 0 where
@@ -37,8 +42,9 @@ column_number retired = 3
 column_number covered = 4
 
 -- Card 8: "balances count from its lots, shortages and filed parts as opening figures". A lot and a shortage of each
--- key, in Mg, and the part of each family of it.
+-- key, in Mg, and the part of each family of it. Card 9: and the open year that a list begins in.
 pub record Opening : Type 0 where
+  pub year : ℕ
   pub lot : Key → ℕ
   pub shortage : Key → ℕ
   pub part : Key → ℕ → ℤ
@@ -49,6 +55,8 @@ pub record Opening : Type 0 where
 pub record Accounts : Type 0 where
   -- what they began with: no call moves it
   pub opening : Opening
+  -- card 9: "2014 or the one read in, plus one for each accepted close"
+  pub open_year : ℕ
   -- the part of a family, as it was last accepted
   pub last : Key → ℕ → ℤ
   pub earned : Key → ℕ
@@ -58,15 +66,18 @@ pub record Accounts : Type 0 where
 -- Accounts before the first call: the parts are the opening ones, and all else starts at zero. A family that is neither
 -- filed nor amended counts with its opening part.
 abbrev pub begun_with : Opening → Accounts
-begun_with o = record { opening = o; last = o.part; earned = λ k. 0; shortfall = λ k. 0; mg = λ c k. 0 }
+begun_with o =
+    record {
+      opening = o;
+      open_year = o.year;
+      last = o.part;
+      earned = λ k. 0;
+      shortfall = λ k. 0;
+      mg = λ c k. 0;
+    }
 
 unfoldable pub same_key : Key → Key → Bool
 same_key k j = eqb k.maker j.maker && (eqb k.set j.set && eqb k.year j.year)
-
--- an amount under a condition, else nothing
-unfoldable pub only : Bool → ℕ → ℕ
-only true n = n
-only false n = 0
 
 -- n more in column c at k, and the rest as before
 abbrev pub add : Column → Key → ℕ → (Column → Key → ℕ) → Column → Key → ℕ
@@ -93,7 +104,39 @@ in_year y v f j = cond (eqb j.year y) (v j) (f j)
 
 -- the columns as g says, and the rest as before
 abbrev pub with_mg : Accounts → (Column → Key → ℕ) → Accounts
-with_mg a g = record { opening = a.opening; last = a.last; earned = a.earned; shortfall = a.shortfall; mg = g }
+with_mg a g =
+    record {
+      opening = a.opening;
+      open_year = a.open_year;
+      last = a.last;
+      earned = a.earned;
+      shortfall = a.shortfall;
+      mg = g;
+    }
+
+-- what a lot and a shortage come to by the accounts. In accounts that agree with a book no difference here stops at zero:
+-- `Reconciled` of Demand3 has the same as sums
+abbrev pub lot_by : Accounts → Key → ℕ
+lot_by a k = a.opening.lot k + a.earned k + a.mg bought k - (a.mg sold k + a.mg applied k + a.mg retired k)
+
+abbrev pub shortage_by : Accounts → Key → ℕ
+shortage_by a k = a.opening.shortage k + a.shortfall k - a.mg covered k
+
+-- an application: "its Mg are added to applied of its maker, set and vintage and to covered of its maker, set and year"
+abbrev pub add_applied : Application → (Column → Key → ℕ) → Column → Key → ℕ
+add_applied p g = add covered (covered_shortage p) p.mg (add applied (applied_lot p) p.mg g)
+
+unfoldable pub add_all : List Application → (Column → Key → ℕ) → Column → Key → ℕ
+add_all [] g = g
+add_all (p ∷ ps) g = add_all ps (add_applied p g)
+
+-- the applications of a cover: "the accounts figure these by this same rule from their own balances and open year"
+abbrev pub in_accounts : Accounts → Cover → Standing
+in_accounts a c =
+    standing a.open_year (λ v. lot_by a (key c.maker c.set v)) (λ y. shortage_by a (key c.maker c.set y))
+
+abbrev pub made_by : Accounts → Cover → List Application
+made_by a c = applications_of c (in_accounts a c)
 
 abbrev pub move : Table → Accounts → Call → Accounts
 -- "its part, figured from its own arguments, is added to the sum of its maker, set and year"; of a filing and its
@@ -101,6 +144,7 @@ abbrev pub move : Table → Accounts → Call → Accounts
 move t a (Call.File f) =
     record {
       opening = a.opening;
+      open_year = a.open_year;
       last = put (filing_key f) f.family (part_for t f) a.last;
       earned = a.earned;
       shortfall = a.shortfall;
@@ -111,6 +155,7 @@ move t a (Call.File f) =
 move t a (Call.Close y) =
     record {
       opening = a.opening;
+      open_year = a.open_year + 1;
       last = a.last;
       earned = in_year y (earned_at a) a.earned;
       shortfall = in_year y (shortfall_at a) a.shortfall;
@@ -118,10 +163,11 @@ move t a (Call.Close y) =
     }
 -- "its Mg are added to sold of the from maker and to bought of the to maker, in its set and vintage"
 move t a (Call.Trade x) = with_mg a (add bought (buyer_lot x) x.mg (add sold (seller_lot x) x.mg a.mg))
--- "its Mg are added to applied of its maker, set and vintage and to covered of its maker, set and year"
-move t a (Call.Apply p) = with_mg a (add covered (covered_shortage p) p.mg (add applied (applied_lot p) p.mg a.mg))
+move t a (Call.Apply p) = with_mg a (add_applied p a.mg)
 -- "its Mg are added to retired of its maker, set and vintage"
 move t a (Call.Retire p) = with_mg a (add retired (retired_lot p) p.mg a.mg)
+-- "It counts as the applications it made"
+move t a (Call.Cover c) = with_mg a (add_all (made_by a c) a.mg)
 
 -- "Refused: nothing moves."
 abbrev pub when_accepted : Bool → Accounts → Accounts → Accounts
@@ -139,9 +185,9 @@ feed_all a (e ∷ es) = feed_all (feed a e) es
 unfoldable pub accounts_from : Opening → List Entry → Accounts
 accounts_from o es = feed_all (begun_with o) es
 
--- and begun with none, as on a fresh book: document 01's "start at zero"
+-- and begun with none, in 2014, as on a fresh book: document 01's "start at zero"
 abbrev pub zero_opening : Opening
-zero_opening = record { lot = λ k. 0; shortage = λ k. 0; part = λ k f. pos 0 }
+zero_opening = record { year = first_year; lot = λ k. 0; shortage = λ k. 0; part = λ k f. pos 0 }
 
 abbrev pub accounts_of : List Entry → Accounts
 accounts_of es = accounts_from zero_opening es

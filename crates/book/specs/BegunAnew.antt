@@ -7,13 +7,14 @@ use Rattle.book.specs.Ledger.{Key, In, figure_at}
 use Rattle.book.specs.Soundness.{sound}
 use Rattle.book.specs.Postings.{fresh_book, covered_shortage}
 use Rattle.book.specs.Rules.{Request}
-use Rattle.book.specs.Accounts.{Opening, Accounts, Entry, as_accepted, zero_opening, accounts_from, accounts_of}
+use Rattle.book.specs.Accounts.{Opening, Accounts, Entry, as_accepted, zero_opening, accounts_from, accounts_of, made_by}
 use Rattle.book.specs.Accounts.{bought, sold, applied, retired, covered}
-use Rattle.book.specs.Demand3.{history, book_after, opening_of}
+use Rattle.book.specs.Demand3.{history, book_after, opening_of, InTurn}
 use Rattle.book.specs.Companions.{Sized}
 use Rattle.book.specs.declared.ledger.Book.{Book}
 use Rattle.book.specs.declared.kinds.Call.{Call}
 use Rattle.book.specs.declared.kinds.Application.{Application}
+use Rattle.book.specs.declared.kinds.Cover.{Cover}
 
 -- No call moves the opening figures: whatever the history, the accounts have those that they began with.
 abbrev pub OpeningStays : Opening → List Entry → Type 0
@@ -31,11 +32,18 @@ pub record FromZero (b : Book) (a : Accounts) (k : Key) : Type 0 where
   pub lot : figure_at b.lots k + a.mg sold k + a.mg applied k + a.mg retired k ≡ a.earned k + a.mg bought k
   pub shortage : figure_at b.shortages k + a.mg covered k ≡ a.shortfall k
 
+-- "the shortage that these accounts give its maker, set and year just before it is at least its Mg"; the years of an
+-- application are as in `Covers`
+abbrev pub CoversFromZero : Accounts → Application → Type 0
+CoversFromZero a p = a.mg covered (covered_shortage p) + p.mg ≤ a.shortfall (covered_shortage p)
+
 pub record BegunFresh (rs : List Request) : Type 0 where
   pub reconciled : (k : Key) → In k → FromZero (book_after fresh_book rs) (accounts_of (history fresh_book rs)) k
-  -- "the shortage that these accounts give its maker, set and year just before it is at least its Mg"; the years of an
-  -- application are as in `Covers`
   pub covers :
       (before after : List Entry) (t : Table) (p : Application)
-      → history fresh_book rs ≡ before ++ as_accepted t (Call.Apply p) ∷ after
-      → (accounts_of before).mg covered (covered_shortage p) + p.mg ≤ (accounts_of before).shortfall (covered_shortage p)
+      → history fresh_book rs ≡ before ++ as_accepted t (Call.Apply p) ∷ after → CoversFromZero (accounts_of before) p
+  -- card 9: and the same of each application that an accepted cover made, which these accounts figure
+  pub made :
+      (before after : List Entry) (t : Table) (c : Cover)
+      → history fresh_book rs ≡ before ++ as_accepted t (Call.Cover c) ∷ after
+      → InTurn CoversFromZero (accounts_of before) (made_by (accounts_of before) c)

@@ -1,5 +1,10 @@
--- A test and sums over the numbers below a bound.
+-- An amount under a condition; a test and sums over the numbers below a bound.
 use Rattle.std.specs.Prelude.{ℕ, zero, suc, ◌+◌, Bool, true, false, ◌||◌, ℤ, pos, ◌+ℤ◌}
+
+-- an amount under a condition, else nothing
+unfoldable pub only : Bool → ℕ → ℕ
+only true n = n
+only false n = 0
 
 -- p 0 or p 1 or .. or p (n - 1)
 unfoldable pub any_below : ℕ → (ℕ → Bool) → Bool

@@ -1,9 +1,10 @@
--- The calls of document 01 by their figures, in its order of their arguments.
+-- The calls by their figures, in the papers' order of their arguments.
 use Rattle.std.specs.Prelude.{ℕ, Bool, List, get_or}
 use Rattle.book.specs.declared.kinds.Filing.{Filing}
 use Rattle.book.specs.declared.kinds.Trade.{Trade}
 use Rattle.book.specs.declared.kinds.Application.{Application}
 use Rattle.book.specs.declared.kinds.Retirement.{Retirement}
+use Rattle.book.specs.declared.kinds.Cover.{Cover}
 
 abbrev pub figure : List ℕ → ℕ → ℕ
 figure n i = get_or n i 0
@@ -35,3 +36,7 @@ application_of n =
 
 abbrev pub retirement_of : List ℕ → Retirement
 retirement_of n = record { maker = figure n 0; set = figure n 1; vintage = figure n 2; mg = figure n 3 }
+
+-- card 9
+abbrev pub cover_of : List ℕ → Cover
+cover_of n = record { maker = figure n 0; set = figure n 1 }

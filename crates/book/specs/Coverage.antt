@@ -1,11 +1,11 @@
 -- Card 9: "pays the oldest open shortage from the oldest live lot until either kind is used up", as a list of payments
--- figured from a cell's live lots and open shortages alone. That it is the card's sentence, and that no other list is, is
--- claimed in OldestFirst: no reader need trust the turns. Groundwork: no call makes a cover yet.
+-- figured from a cell's live lots and open shortages alone. The book and the accounts figure it by this one definition.
+-- That it is the card's sentence, and that no other list is, is claimed in OldestFirst: no reader need trust the turns.
 use Rattle.std.specs.Prelude.{ℕ, zero, suc, ◌+◌, ◌-◌, min, List, [], ◌∷◌, ◌++◌, map, eqb}
 use Rattle.figuring.specs.Years.{first_year}
 use Rattle.figuring.specs.Life.{live, open_short}
 use Rattle.book.specs.Sizes.{years}
-use Rattle.book.specs.Accounts.{only}
+use Rattle.book.specs.Below.{only}
 
 -- what one cell has, in Mg: live lots by vintage and open shortages by year, 0 where there is none
 pub record Standing : Type 0 where

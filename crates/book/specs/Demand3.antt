@@ -10,11 +10,12 @@ use Rattle.book.specs.Ledger.{Key, In, cell, figure_at, part_at}
 use Rattle.book.specs.Postings.{covered_shortage}
 use Rattle.figuring.specs.Tables.{Table}
 use Rattle.book.specs.Rules.{Request, posted_to}
-use Rattle.book.specs.Accounts.{Opening, Accounts, Entry, as_accepted, accounts_from}
+use Rattle.book.specs.Accounts.{Opening, Accounts, Entry, as_accepted, accounts_from, with_mg, add_applied, made_by}
 use Rattle.book.specs.Accounts.{bought, sold, applied, retired, covered}
 use Rattle.book.specs.declared.ledger.Book.{Book}
 use Rattle.book.specs.declared.kinds.Call.{Call}
 use Rattle.book.specs.declared.kinds.Application.{Application}
+use Rattle.book.specs.declared.kinds.Cover.{Cover}
 
 -- "Accepted means answered without" a refusal.
 unfoldable pub is_accepted : Answered → Bool
@@ -37,10 +38,11 @@ book_after b (r ∷ rs) = book_after (posted_to b r).book rs
 -- Card 8: "A book read in carries no history: demand 3's list begins anew with it, and balances count from its lots,
 -- shortages and filed parts as opening figures." Here alone accounts take something from a book: from the one that the
 -- list begins with, before its first call. A book's parts are those of its open year, and a sound one has 0 where no
--- family is filed; of any other year there is none.
+-- family is filed; of any other year there is none. Card 9: and its open year, from which the accounts count their own.
 abbrev pub opening_of : Book → Opening
 opening_of b =
     record {
+      year = b.open_year;
       lot = figure_at b.lots;
       shortage = figure_at b.shortages;
       part = λ k f. cond (eqb k.year b.open_year) (part_at b.parts (cell k.maker k.set) f) (pos 0);
@@ -67,11 +69,23 @@ pub record Covers (a : Accounts) (p : Application) : Type 0 where
   pub not_too_late : p.year ≤ p.vintage + 5
   pub not_too_early : p.vintage ≤ p.year + 3
 
+-- what is said of an application, of some that follow one another: each by the accounts that the one before left
+abbrev pub InTurn : (Accounts → Application → Type 0) → Accounts → List Application → Type 0
+InTurn P a [] = Unit {0}
+InTurn P a (p ∷ ps) = P a p × InTurn P (with_mg a (add_applied p a.mg)) ps
+
 -- of any list begun on any book: one that is not sound takes no call
 pub record Demand3 (b : Book) (rs : List Request) : Type 0 where
   -- every lot and every shortage, of every maker, set and year 2014 to 2037
   pub reconciled : (k : Key) → In k → Reconciled (book_after b rs) (accounts_after b rs) k
+  -- the open year, which the accounts count by themselves
+  pub year : (accounts_after b rs).open_year ≡ (book_after b rs).open_year
   -- every accepted application of the list, wherever it stands in it
   pub covers :
       (before after : List Entry) (t : Table) (p : Application)
       → history b rs ≡ before ++ as_accepted t (Call.Apply p) ∷ after → Covers (accounts_from (opening_of b) before) p
+  -- and every application that an accepted cover made, which the accounts figure
+  pub made :
+      (before after : List Entry) (t : Table) (c : Cover)
+      → history b rs ≡ before ++ as_accepted t (Call.Cover c) ∷ after
+      → let a = accounts_from (opening_of b) before in InTurn Covers a (made_by a c)

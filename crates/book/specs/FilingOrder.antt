@@ -19,7 +19,7 @@ use Rattle.book.specs.declared.ledger.Book.{Book}
 use Rattle.book.specs.declared.kinds.Call.{Call}
 use Rattle.book.specs.declared.kinds.Filing.{Filing}
 use Rattle.book.specs.declared.answers.Posted.{Posted}
-use Rattle.book.specs.declared.answers.Answer.TheVariants.{Filed, Closed, Left}
+use Rattle.book.specs.declared.answers.Answer.TheVariants.{Filed, Closed, Left, Covered}
 
 -- what a filing names: "maker, set and number"
 pub record Family : Type 0 where
@@ -61,6 +61,7 @@ count_aside (Err r) = Err r
 count_aside (Ok (Filed p n)) = Ok (Filed p 0)
 count_aside (Ok (Closed n)) = Ok (Closed n)
 count_aside (Ok (Left m)) = Ok (Left m)
+count_aside (Ok (Covered m)) = Ok (Covered m)
 
 -- what a filing gets where others went before it
 abbrev pub gets_after : Book → List Lodged → Lodged → Answered

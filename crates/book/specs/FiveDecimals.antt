@@ -15,7 +15,7 @@ use Rattle.book.specs.Postings.{fresh_book, with_families, closed_in}
 use Rattle.book.specs.Rules.{Request, head_rows, table_rows, own_rows, done, outcome, posted}
 use Rattle.book.specs.declared.ledger.Book.{Book}
 use Rattle.book.specs.declared.kinds.Call.{Call}
-use Rattle.book.specs.declared.answers.Answer.TheVariants.{Filed, Closed, Left}
+use Rattle.book.specs.declared.answers.Answer.TheVariants.{Filed, Closed, Left, Covered}
 use Rattle.book.specs.declared.answers.Posted.{Posted}
 
 -- the card's bound, of every part of a family that is filed: "A sound part lies within ±3.84 × 10^16"
@@ -31,9 +31,10 @@ on_cf g (Call.Close y) = Call.Close y
 on_cf g (Call.Trade t) = Call.Trade t
 on_cf g (Call.Apply p) = Call.Apply p
 on_cf g (Call.Retire p) = Call.Retire p
+on_cf g (Call.Cover c) = Call.Cover c
 
 -- ---- the rules with document 01's figures: those of now, but for the bound of a part, the limit of CF and the unit of
--- a close
+-- a close. A cover, which came after the card (card 9), is as it is now
 
 -- "every part within ±3.84 × 10^15", which is less than now
 abbrev pub old_sound : Book → Bool
@@ -50,6 +51,7 @@ old_done t b (Call.Close y) = closed_in old_unit b
 old_done t b (Call.Trade x) = done t b (Call.Trade x)
 old_done t b (Call.Apply p) = done t b (Call.Apply p)
 old_done t b (Call.Retire p) = done t b (Call.Retire p)
+old_done t b (Call.Cover c) = done t b (Call.Cover c)
 
 unfoldable pub old_posted : Table → Book → Call → Posted
 old_posted t b c =
@@ -68,6 +70,7 @@ restated_answer (Err r) = Err r
 restated_answer (Ok (Filed p n)) = Ok (Filed (record { 0 = restated_part p.0 }) n)
 restated_answer (Ok (Closed n)) = Ok (Closed n)
 restated_answer (Ok (Left m)) = Ok (Left m)
+restated_answer (Ok (Covered m)) = Ok (Covered m)
 
 -- ---- the promise
 

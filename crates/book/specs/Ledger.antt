@@ -43,7 +43,7 @@ cell m s = m * sets + s
 -- Where a key's lot and shortage stand, of a key of the book (`In`). A year outside 2014 to 2037 has no place of its
 -- own: `place` gives it that of 2014, or of another cell. No call reads a figure there: the rows that do (14, 15, 16)
 -- come after those that refuse an open year out of range (2), a maker or a set that the book has not (3, 4) and such
--- a year (10, 14). A listing asks `is_cell_year` first.
+-- a year (10, 14); a cover's payments are of live lots and open shortages. A listing asks `is_cell_year` first.
 abbrev pub place : Key → ℕ
 place k = (k.maker * sets + k.set) * years + (k.year - first_year)
 

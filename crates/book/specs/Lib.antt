@@ -7,14 +7,14 @@ pub mod Soundness
 pub mod Refusals
 pub mod Calls
 pub mod Postings
+pub mod Coverage
+pub mod Covering
+pub mod Paying
 pub mod Rules
 pub mod Accounts
 pub mod Demand3
 pub mod Demand1
 pub mod Companions
-pub mod Coverage
-pub mod Covering
-pub mod Paying
 pub mod BegunAnew
 pub mod Orders
 pub mod FilingOrder

@@ -1,17 +1,20 @@
--- Card 9, "Oldest credits first": what is claimed of a cover. The proofs are in proofs/OldestFirst.antt.
-use Rattle.std.specs.Prelude.{ℕ, ◌+◌, ◌≤◌, ◌<◌, min, Bool, List, [], ◌∷◌, map, ◌≡◌, leb, eqb, Ok}
+-- Card 9, "Oldest credits first": what is claimed of a cover. The proofs are in proofs/OldestFirst.antt and
+-- proofs/CoverCounts.antt.
+use Rattle.std.specs.Prelude.{ℕ, ◌+◌, ◌≤◌, ◌<◌, min, Bool, true, List, [], ◌∷◌, map, ◌≡◌, ◌↔◌, leb, pos}
 use Rattle.figuring.specs.Years.{first_year}
 use Rattle.figuring.specs.Life.{live, open_short}
 use Rattle.figuring.specs.Tables.{Table}
-use Rattle.book.specs.Sizes.{years}
-use Rattle.book.specs.Below.{sum_below}
+use Rattle.book.specs.Sizes.{makers, sets, years}
+use Rattle.book.specs.Below.{only, sum_below}
 use Rattle.book.specs.Ledger.{key, figure_at}
-use Rattle.book.specs.Rules.{Request, handed, posted, numbers}
-use Rattle.book.specs.Accounts.{Entry, as_accepted, only}
-use Rattle.book.specs.Demand3.{is_accepted, history, book_after}
+use Rattle.book.specs.Soundness.{sound}
+use Rattle.book.specs.Refusals.{result_in}
+use Rattle.book.specs.Rules.{Request, handed, posted}
+use Rattle.book.specs.Accounts.{Opening, Accounts, Entry, as_accepted, move, feed_all, accounts_from, made_by}
+use Rattle.book.specs.Demand3.{is_accepted, history, book_after, accounts_after}
 use Rattle.book.specs.Companions.{Sized}
-use Rattle.book.specs.Coverage.{Standing, standing, Payment, after, turn, coverage}
-use Rattle.book.specs.Covering.{application, applications_of, in_book, after_cover, moved_by, rows_of, Coverable, paid, paid_oldest}
+use Rattle.book.specs.Coverage.{Standing, Payment, after, turn, coverage}
+use Rattle.book.specs.Covering.{application, applications_of, in_book}
 use Rattle.book.specs.declared.ledger.Book.{Book}
 use Rattle.book.specs.declared.kinds.Call.{Call}
 use Rattle.book.specs.declared.kinds.Application.{Application}
@@ -62,49 +65,73 @@ covered_by t b [] = 0
 covered_by t b (p ∷ ps) =
     only (is_accepted (posted t b (Call.Apply p)).answer) p.mg + covered_by t (posted t b (Call.Apply p)).book ps
 
--- ---- a cover that nothing refuses, with whatever table and by whatever book
+-- ---- when a cover is accepted: 2, 3 and 4 are all that it is asked, so neither the open year 2038 nor that there is nothing
+-- to move stops it
+abbrev pub AcceptedExactly : Table → Book → Cover → Type 0
+AcceptedExactly t b c =
+    (is_accepted (posted t b (Call.Cover c)).answer ≡ true) ↔ ((sound b ≡ true) × (c.maker < makers) × (c.set < sets))
+
+-- ---- a cover that is accepted, with whatever table and by whatever book
 pub record PaysOldest (t : Table) (b : Book) (c : Cover) : Type 0 where
-  pub pays : paid_oldest b c ≡ Ok (paid b c)
   -- its payments are the card's sentence, and no other list is
   pub word_for_word : WordForWord (in_book b c) (coverage (in_book b c))
   pub only_one : (ps : List Payment) → WordForWord (in_book b c) ps → ps ≡ coverage (in_book b c)
   -- put to the book one by one as applications each is accepted, and they leave the book that the cover leaves
   pub all_accepted :
       history b (as_calls t (applications_of c (in_book b c))) ≡ as_entries t (applications_of c (in_book b c))
-  pub same_book : book_after b (as_calls t (applications_of c (in_book b c))) ≡ after_cover b c
+  pub same_book :
+      book_after b (as_calls t (applications_of c (in_book b c))) ≡ (posted t b (Call.Cover c)).book
   -- "It returns the Mg moved, which is the smaller of the two totals, 0 included."
-  pub moves : moved_by b c ≡ covered_by t b (applications_of c (in_book b c))
-  pub smaller : moved_by b c ≡ min (live_lots b c) (open_shortages b c)
+  pub answers :
+      result_in (posted t b (Call.Cover c)).answer 0 ≡ pos (covered_by t b (applications_of c (in_book b c)))
+  pub smaller : covered_by t b (applications_of c (in_book b c)) ≡ min (live_lots b c) (open_shortages b c)
 
 abbrev pub OldestFirst : Table → Book → Cover → Type 0
-OldestFirst t b c = Sized b → Coverable b c → PaysOldest t b c
-
--- an example that can be added up by hand: of one cell, lots of 2018, which is expired in 2025, of 2019 and of 2022, and
--- shortages of 2020, which is overdue, of 2021 and of 2024
-abbrev pub many_years : Standing
-many_years =
-    standing 2025 (λ v. only (eqb v 2018) 30 + only (eqb v 2019) 50 + only (eqb v 2022) 100)
-    (λ y. only (eqb y 2020) 40 + only (eqb y 2021) 70 + only (eqb y 2024) 60)
-
-abbrev pub payment : ℕ → ℕ → ℕ → Payment
-payment v y n = record { vintage = v; year = y; mg = n }
-
-abbrev pub ByHand : Type 0
-ByHand = coverage many_years ≡ payment 2019 2021 50 ∷ payment 2022 2021 20 ∷ payment 2022 2024 60 ∷ []
-
--- all that a cover is asked, by the papers' numbers
-abbrev pub AskedOfCover : Book → Cover → Type 0
-AskedOfCover b c = numbers (rows_of b c) ≡ 2 ∷ 3 ∷ 4 ∷ []
+OldestFirst t b c = Sized b → is_accepted (posted t b (Call.Cover c)).answer ≡ true → PaysOldest t b c
 
 -- ---- no worse than any other way
 
 -- "For every vintage, what remains in lots of that vintage or younger is at least what any other list of that maker's
 -- applications in that set, begun on the same book, leaves, if it covers as many Mg." The others are any list, of any
--- length, accepted and refused ones among them.
+-- length, accepted and refused ones among them; n are the Mg that the cover answers, 0 where it is refused, and the book
+-- is any one, sound or not.
 abbrev pub NoneBetter : Table → Book → Cover → Type 0
 NoneBetter t b c =
     Sized b
-    → Coverable b c
-    → (v : ℕ) (others : List Payment)
-    → moved_by b c ≤ covered_by t b (map (application c) others)
-    → lots_from v (book_after b (as_calls t (map (application c) others))) c ≤ lots_from v (after_cover b c) c
+    → (v n : ℕ) (others : List Payment)
+    → result_in (posted t b (Call.Cover c)).answer 0 ≡ pos n
+    → n ≤ covered_by t b (map (application c) others)
+    → lots_from v (book_after b (as_calls t (map (application c) others))) c
+    ≤ lots_from v (posted t b (Call.Cover c)).book c
+
+-- ---- in the accounts
+
+-- "It counts as the applications it made": an accepted cover leaves the accounts that these applications would, each
+-- entered as accepted
+abbrev pub CountsAsMade : Table → Accounts → Cover → Type 0
+CountsAsMade t a c = move t a (Call.Cover c) ≡ feed_all a (as_entries t (made_by a c))
+
+-- and they are the applications that it made in the book, after any list begun on any book
+abbrev pub AsInBook : Table → Book → List Request → Cover → Type 0
+AsInBook t b rs c =
+    Sized b
+    → is_accepted (posted t (book_after b rs) (Call.Cover c)).answer ≡ true
+    → made_by (accounts_after b rs) c ≡ applications_of c (in_book (book_after b rs) c)
+
+-- 1 for a close
+abbrev pub one_if_close : Call → ℕ
+one_if_close (Call.File f) = 0
+one_if_close (Call.Close y) = 1
+one_if_close (Call.Trade x) = 0
+one_if_close (Call.Apply p) = 0
+one_if_close (Call.Retire p) = 0
+one_if_close (Call.Cover c) = 0
+
+-- how many accepted closes a history has
+unfoldable pub closes_in : List Entry → ℕ
+closes_in [] = 0
+closes_in (e ∷ es) = only e.accepted (one_if_close e.call) + closes_in es
+
+-- the accounts' own open year: "2014 or the one read in, plus one for each accepted close"
+abbrev pub OwnYear : Opening → List Entry → Type 0
+OwnYear o es = (accounts_from o es).open_year ≡ o.year + closes_in es

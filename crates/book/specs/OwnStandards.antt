@@ -8,7 +8,9 @@ use Rattle.book.specs.Soundness.{sound}
 use Rattle.book.specs.Refusals.{Row, first_refusal, refusal_in}
 use Rattle.book.specs.Postings.{part_for, part_beside, filing_cell, stored}
 use Rattle.book.specs.Postings.{close_done, trade_done, application_done, retirement_done}
-use Rattle.book.specs.Rules.{head_rows, figure_rows, mark_row, close_rows, trade_rows, apply_rows, retire_rows, outcome, posted}
+use Rattle.book.specs.Covering.{cover_done}
+use Rattle.book.specs.Rules.{head_rows, figure_rows, mark_row, close_rows, trade_rows, apply_rows, retire_rows, cover_rows}
+use Rattle.book.specs.Rules.{outcome, posted}
 use Rattle.book.specs.Demand3.{is_accepted}
 use Rattle.book.specs.declared.ledger.Book.{Book}
 use Rattle.book.specs.declared.kinds.Call.{Call}
@@ -16,6 +18,7 @@ use Rattle.book.specs.declared.kinds.Filing.{Filing}
 use Rattle.book.specs.declared.kinds.Trade.{Trade}
 use Rattle.book.specs.declared.kinds.Application.{Application}
 use Rattle.book.specs.declared.kinds.Retirement.{Retirement}
+use Rattle.book.specs.declared.kinds.Cover.{Cover}
 use Rattle.book.specs.declared.answers.Posted.{Posted}
 
 -- ---- 20
@@ -32,6 +35,7 @@ pub record ReadNoTable (t u : Table) (b : Book) : Type 0 where
   pub trade : (x : Trade) → posted t b (Call.Trade x) ≡ posted u b (Call.Trade x)
   pub apply : (p : Application) → posted t b (Call.Apply p) ≡ posted u b (Call.Apply p)
   pub retire : (p : Retirement) → posted t b (Call.Retire p) ≡ posted u b (Call.Retire p)
+  pub cover : (c : Cover) → posted t b (Call.Cover c) ≡ posted u b (Call.Cover c)
 
 -- ---- a part stays within its bound, whatever the table: 768 × the limits
 abbrev pub WithinBound : Table → Book → Filing → Type 0
@@ -41,7 +45,7 @@ WithinBound t b f =
 -- ---- with the built-in table all is as before
 
 -- the rules as they were before this card: a call is handed no table, there is no 20, and the ordinary standard is the
--- printed one
+-- printed one. A cover, which came after it (card 9), is as it is now
 abbrev pub printed_of : Filing → Standard
 printed_of f = standard_for f.set f.vehicle_use f.year
 
@@ -51,6 +55,7 @@ rows_before b (Call.Close y) = close_rows b.open_year y
 rows_before b (Call.Trade x) = trade_rows b.open_year b.lots b.shortages x
 rows_before b (Call.Apply p) = apply_rows b.open_year b.lots b.shortages p
 rows_before b (Call.Retire p) = retire_rows b.open_year b.lots b.shortages p
+rows_before b (Call.Cover c) = cover_rows c
 
 abbrev pub done_before : Book → Call → Posted
 done_before b (Call.File f) = stored b (filing_cell f) f.family (part_beside (printed_of f) f)
@@ -58,6 +63,7 @@ done_before b (Call.Close y) = close_done b
 done_before b (Call.Trade x) = trade_done b x
 done_before b (Call.Apply p) = application_done b p
 done_before b (Call.Retire p) = retirement_done b p
+done_before b (Call.Cover c) = cover_done b c
 
 unfoldable pub posted_before : Book → Call → Posted
 posted_before b c = outcome (first_refusal (head_rows (sound b) [] ++ rows_before b c)) b (done_before b c)

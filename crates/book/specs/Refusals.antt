@@ -8,7 +8,7 @@ use Rattle.book.specs.declared.answers.Refusal.TheVariants.{HasShortage, NoOpenS
 use Rattle.book.specs.declared.answers.Refusal.TheVariants.{NoEdition, NotFiled, NotATable, UnfitTable}
 use Rattle.book.specs.declared.answers.Refusal.TheVariants.{ShortBuffer, NotABook}
 use Rattle.book.specs.declared.answers.Answer.{Answer}
-use Rattle.book.specs.declared.answers.Answer.TheVariants.{Filed, Closed, Left}
+use Rattle.book.specs.declared.answers.Answer.TheVariants.{Filed, Closed, Left, Covered}
 
 -- the paper's number of each refusal
 abbrev pub number_of : Refusal → ℕ
@@ -68,12 +68,13 @@ refusal_in (Err r) = number_of r
 refusal_in (Ok a) = 0
 
 -- the values of an accepted call, in the paper's order: a filing's part and count, a close's cells that closed short,
--- what is left in the paying lot
+-- what is left in the paying lot; of a cover (card 9) "the Mg moved"
 unfoldable pub values_in : Answered → List ℤ
 values_in (Err r) = []
 values_in (Ok (Filed p n)) = p.0 ∷ pos n ∷ []
 values_in (Ok (Closed n)) = pos n ∷ []
 values_in (Ok (Left m)) = pos m.0 ∷ []
+values_in (Ok (Covered m)) = pos m.0 ∷ []
 
 -- the result at a place of an answer, from 0 on: its value there, and zero where it has none. So of a refusal, which
 -- has no values, each is "zero for the other results"

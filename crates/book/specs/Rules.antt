@@ -15,12 +15,14 @@ use Rattle.figuring.specs.Life.{live, open_short}
 use Rattle.book.specs.Refusals.{Answered, Verdict, Row, ◌⇒◌, first_refusal, number_of}
 use Rattle.book.specs.Postings.{filing_done, close_done, trade_done, application_done, retirement_done}
 use Rattle.book.specs.Postings.{ordinary_for, filing_cell, seller_lot, applied_lot, covered_shortage, retired_lot}
+use Rattle.book.specs.Covering.{cover_done}
 use Rattle.book.specs.declared.ledger.Book.{Book}
 use Rattle.book.specs.declared.kinds.Call.{Call}
 use Rattle.book.specs.declared.kinds.Filing.{Filing}
 use Rattle.book.specs.declared.kinds.Trade.{Trade}
 use Rattle.book.specs.declared.kinds.Application.{Application}
 use Rattle.book.specs.declared.kinds.Retirement.{Retirement}
+use Rattle.book.specs.declared.kinds.Cover.{Cover}
 use Rattle.book.specs.declared.answers.Posted.{Posted}
 use Rattle.book.specs.declared.answers.Refusal.{Refusal}
 use Rattle.book.specs.declared.answers.Refusal.TheVariants.{UnsoundBook, UnknownMaker, UnknownSet, YearNotOpen}
@@ -43,6 +45,7 @@ table_rows t (Call.Close y) = []
 table_rows t (Call.Trade x) = []
 table_rows t (Call.Apply p) = []
 table_rows t (Call.Retire p) = []
+table_rows t (Call.Cover c) = []
 
 -- ---- each call's own rows, over what they read of the book and no more: Y is the open year
 
@@ -108,12 +111,17 @@ retire_rows Y lots shortages p =
     ∷ (ltb (figure_at lots (retired_lot p)) p.mg ⇒ AboveLot)
     ∷ []
 
+-- Card 9: a cover is asked for its maker and its set, and for nothing else: with nothing to move it moves nothing
+unfoldable pub cover_rows : Cover → List Row
+cover_rows c = (leb makers c.maker ⇒ UnknownMaker) ∷ (leb sets c.set ⇒ UnknownSet) ∷ []
+
 unfoldable pub own_rows : Table → Book → Call → List Row
 own_rows t b (Call.File f) = file_rows (ordinary_for t f) b.open_year b.marks f
 own_rows t b (Call.Close y) = close_rows b.open_year y
 own_rows t b (Call.Trade x) = trade_rows b.open_year b.lots b.shortages x
 own_rows t b (Call.Apply p) = apply_rows b.open_year b.lots b.shortages p
 own_rows t b (Call.Retire p) = retire_rows b.open_year b.lots b.shortages p
+own_rows t b (Call.Cover c) = cover_rows c
 
 -- all that a call is asked
 unfoldable pub rows_for : Table → Book → Call → List Row
@@ -128,6 +136,7 @@ done t b (Call.Close y) = close_done b
 done t b (Call.Trade x) = trade_done b x
 done t b (Call.Apply p) = application_done b p
 done t b (Call.Retire p) = retirement_done b p
+done t b (Call.Cover c) = cover_done b c
 
 -- an answer or a refusal, and the book after it
 abbrev pub answered : Answered → Book → Posted
@@ -178,3 +187,4 @@ pub record CheckingOrder : Type 0 where
   pub retire :
       (t : Table) (b : Book) (p : Retirement)
       → numbers (rows_for t b (Call.Retire p)) ≡ 2 ∷ 3 ∷ 4 ∷ 10 ∷ 11 ∷ 13 ∷ 15 ∷ []
+  pub cover : (t : Table) (b : Book) (c : Cover) → numbers (rows_for t b (Call.Cover c)) ≡ 2 ∷ 3 ∷ 4 ∷ []

@@ -50,6 +50,8 @@ pub enum Answer {
     Closed(u64),
     // What is left in the paying lot.
     Left(Mg),
+    // What a cover moved.
+    Covered(Mg),
 }
 
 // The answer to a call, or what refuses it; and the book after it. Each step by value works on the book that it was handed

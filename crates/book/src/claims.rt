@@ -5,7 +5,7 @@ ghost use Rattle.figuring.specs.Tables.{Table};
 ghost use Rattle.book.specs.Ledger.{Key, In};
 ghost use Rattle.book.specs.Soundness.{sound};
 ghost use Rattle.book.specs.Rules.{CheckingOrder, Request};
-ghost use Rattle.book.specs.Accounts.{Entry, Opening};
+ghost use Rattle.book.specs.Accounts.{Accounts, Entry, Opening};
 ghost use Rattle.book.specs.Demand1.{Demand1};
 ghost use Rattle.book.specs.Demand3.{Demand3};
 ghost use Rattle.book.specs.Companions.{KeepsSound, NeverUnsound, Sized, Stays, StrikeOut};
@@ -15,7 +15,7 @@ ghost use Rattle.book.specs.FiveDecimals.{SameSessions, SoundParts};
 ghost use Rattle.book.specs.Editions.{ElseTheSame, Reaches6, SixThenSeventeen, UnderNamed};
 ghost use Rattle.book.specs.Amendments.{Amended, CountsLast, LastCounts, StandsInPlaceOf9};
 ghost use Rattle.book.specs.OwnStandards.{AsBefore, ReadNoTable, Twenty, WithinBound};
-ghost use Rattle.book.specs.OldestFirst.{AskedOfCover, ByHand, NoneBetter, OldestFirst};
+ghost use Rattle.book.specs.OldestFirst.{AcceptedExactly, AsInBook, CountsAsMade, NoneBetter, OldestFirst, OwnYear};
 ghost use Rattle.book.specs.Marked.{MarkedFigures};
 ghost use Rattle.book.specs.EachAccount.{EachAccount};
 ghost use Rattle.book.specs.declared.ledger.Book.{Book};
@@ -168,13 +168,12 @@ pub fn as_before() -> bool
     true
 }
 
-// Card 9: a cover that nothing refuses pays the oldest open shortage from the oldest live lot until either kind is used
-// up, and is the applications that it makes, each accepted in its turn; the Mg moved are the smaller of the two totals.
-// 2, 3 and 4 alone concern it.
+// Card 9: a cover is accepted just where 2, 3 and 4 do not apply. It pays the oldest open shortage from the oldest live lot
+// until either kind is used up, and is the applications that it makes, each accepted in its turn; the Mg moved are the
+// smaller of the two totals.
 pub fn oldest_first() -> bool
-    ensures { (result ≡ true) × ((t : Table) (b : Book) (c : Cover) → OldestFirst t b c)
-        × ByHand
-        × ((b : Book) (c : Cover) → AskedOfCover b c) }
+    ensures { (result ≡ true) × ((t : Table) (b : Book) (c : Cover) → AcceptedExactly t b c)
+        × ((t : Table) (b : Book) (c : Cover) → OldestFirst t b c) }
 {
     true
 }
@@ -182,6 +181,15 @@ pub fn oldest_first() -> bool
 // No other list of the maker's applications in the set that covers as many Mg leaves more in the younger lots.
 pub fn none_better() -> bool
     ensures { (result ≡ true) × ((t : Table) (b : Book) (c : Cover) → NoneBetter t b c) }
+{
+    true
+}
+
+// In the accounts a cover counts as the applications that it made in the book, which they figure by themselves.
+pub fn counts_as_made() -> bool
+    ensures { (result ≡ true) × ((t : Table) (a : Accounts) (c : Cover) → CountsAsMade t a c)
+        × ((t : Table) (b : Book) (rs : List Request) (c : Cover) → AsInBook t b rs c)
+        × ((o : Opening) (es : List Entry) → OwnYear o es) }
 {
     true
 }

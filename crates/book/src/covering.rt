@@ -1,15 +1,16 @@
-// Cover: pays a cell's oldest open shortage from its oldest live lot until either kind is used up (card 9). Groundwork:
-// a cover is no call yet, so no list, no account and no line of text holds one.
+// Cover: pays a cell's oldest open shortage from its oldest live lot until either kind is used up (card 9).
 ghost use Rattle.std.specs.Prelude.{[], ◌∷◌, ◌≡◌, min};
 ghost use Rattle.figuring.specs.Life.{live, open_short};
-ghost use Rattle.book.specs.Accounts.{only};
+ghost use Rattle.figuring.specs.Tables.{Table};
+ghost use Rattle.book.specs.Below.{only};
 ghost use Rattle.book.specs.Places.{cell_of};
 ghost use Rattle.book.specs.Refusals.{first_refusal};
 ghost use Rattle.book.specs.Coverage.{turn};
-ghost use Rattle.book.specs.Covering.{rows_of, paid_oldest};
+ghost use Rattle.book.specs.Rules.{answered, posted, rows_for};
 ghost use Rattle.book.specs.Paying.{Paid, Payable, all_turns, turns_of};
+ghost use Rattle.book.specs.declared.kinds.Call.{Call};
 
-use crate::answers::Refusal;
+use crate::answers::{Answer, Posted, Refusal};
 use crate::head::head_verdict;
 use crate::kinds::Cover;
 use crate::ledger::{Book, MAKERS, SETS, figure_at, lower_figure};
@@ -18,28 +19,25 @@ use figuring::life::{is_live, is_open};
 use figuring::units::Mg;
 use figuring::years::{FIRST_YEAR, LAST_YEAR};
 
-// The Mg that a cover moved, and the book after it.
-#[derive(Clone, Copy)]
-pub struct Covered {
-    pub moved: Mg,
-    pub book: Book,
-}
-
-// A cover by value: paid, or refused with 2, 3 or 4 alone.
-pub fn paid_oldest(mut book: Book, c: Cover) -> Result<Covered, Refusal>
-    ensures { result ≡ paid_oldest book c }
+pub fn cover(mut book: Book, c: Cover) -> Posted
+    ensures { (table : Table) → result ≡ posted table book (Call.Cover c) }
 {
-    cover_verdict(&book, c)?;
-    let moved = pay_all(&mut book, c);
-    Ok(Covered {
-        moved: Mg(moved),
-        book,
-    })
+    let answer = covered(&mut book, c);
+    Posted { answer, book }
 }
 
-#[tactic(auto, unfolding(crate::specs::Rules::head_rows, crate::specs::Covering::cover_rows))]
+#[tactic(auto, using(crate::proofs::TableLaws::refused_so))]
+fn covered(book: &mut Book, c: Cover) -> Result<Answer, Refusal>
+    ensures { (table : Table) → answered result book.new ≡ posted table book.old (Call.Cover c) }
+{
+    cover_verdict(book, c)?;
+    let moved = pay_all(book, c);
+    Ok(Answer::Covered(Mg(moved)))
+}
+
+#[tactic(auto, unfolding(crate::specs::Rules::rows_for, crate::specs::Rules::head_rows, crate::specs::Rules::own_rows, crate::specs::Rules::cover_rows))]
 fn cover_verdict(book: &Book, c: Cover) -> Result<(), Refusal>
-    ensures { result ≡ first_refusal (rows_of book.now c) }
+    ensures { (table : Table) → result ≡ first_refusal (rows_for table book.now (Call.Cover c)) }
 {
     head_verdict(book.is_sound())?;
     if c.maker >= MAKERS {
@@ -96,7 +94,7 @@ fn pay_turn(book: &mut Book, lot: Place, shortage: Place) -> u64
 
 // What a lot pays to a shortage: the smaller of the two where one is live and the other open. A rule of numbers, which knows
 // no place.
-#[tactic(auto, unfolding(crate::specs::Accounts::only))]
+#[tactic(auto, unfolding(crate::specs::Below::only))]
 fn turn_amount(open_year: u64, lot: u64, vintage: u64, shortage: u64, year: u64) -> u64
     ensures { result ≡ min (only (live open_year vintage) lot) (only (open_short open_year year) shortage) }
 {

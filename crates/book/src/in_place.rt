@@ -2,7 +2,7 @@
 // proved by-value step and store the result back; `post_in` passes the book on to the call's own. A refusal leaves
 // the book exactly as it was, so of one nothing is stored. Filings alone read the table of standards, so the other
 // calls take none, and their contracts hold for every table.
-// The five are public and a line each; the one for all of them is `post_in`.
+// The six are public and a line each; the one for all of them is `post_in`.
 ghost use Rattle.std.specs.Prelude.{◌≡◌};
 ghost use Rattle.figuring.specs.Tables.{Table};
 ghost use Rattle.book.specs.Rules.{answered, posted};
@@ -11,8 +11,9 @@ ghost use Rattle.book.specs.declared.kinds.Call.{Call};
 use crate::answers::{Answer, Refusal};
 use crate::applying::apply;
 use crate::closing::close;
+use crate::covering::cover;
 use crate::filing::file;
-use crate::kinds::{Application, Call, Filing, Retirement, Trade};
+use crate::kinds::{Application, Call, Cover, Filing, Retirement, Trade};
 use crate::ledger::Book;
 use crate::retiring::retire;
 use crate::trading::trade;
@@ -58,6 +59,14 @@ pub fn retire_in(book: &mut Book, p: Retirement) -> Result<Answer, Refusal>
     retire(*book, p).store(book)
 }
 
+#[tactic(auto, using(crate::proofs::RefusalLaws::stored_so))]
+pub fn cover_in(book: &mut Book, c: Cover) -> Result<Answer, Refusal>
+    ensures { (table : Table)
+        → answered result book.new ≡ posted table book.old (Call.Cover c) }
+{
+    cover(*book, c).store(book)
+}
+
 // Any call, posted in place.
 pub fn post_in(book: &mut Book, table: Table, call: Call) -> Result<Answer, Refusal>
     ensures { answered result book.new ≡ posted table book.old call }
@@ -68,5 +77,6 @@ pub fn post_in(book: &mut Book, table: Table, call: Call) -> Result<Answer, Refu
         Call::Trade(t) => trade_in(book, t),
         Call::Apply(p) => apply_in(book, p),
         Call::Retire(p) => retire_in(book, p),
+        Call::Cover(c) => cover_in(book, c),
     }
 }

@@ -1,7 +1,7 @@
-// The calls of document 01, with the arguments other than the book. What is made of figures takes them in document 01's
-// order of the arguments.
+// The calls of document 01 and of the cards, with the arguments other than the book. What is made of figures takes them
+// in the papers' order of the arguments.
 ghost use Rattle.std.specs.Prelude.{◌≡◌};
-ghost use Rattle.book.specs.Calls.{filing_of, trade_of, application_of, retirement_of};
+ghost use Rattle.book.specs.Calls.{filing_of, trade_of, application_of, retirement_of, cover_of};
 
 // A filing; or, where it amends, an amendment, which has the same fields (card 6).
 // `amends` is a flag by the project's rule that calls which differ in a figure are one call, with one struct, one list of
@@ -121,11 +121,19 @@ impl From<[u64; 4]> for Retirement {
     }
 }
 
-// Oldest credits first (card 9). It is no call yet: covering.rt pays it.
+// Oldest credits first (card 9).
 #[derive(Clone, Copy)]
 pub struct Cover {
     pub maker: u64,
     pub set: u64,
+}
+
+impl From<[u64; 2]> for Cover {
+    ghost from_gives = { λ figures cover. cover ≡ cover_of figures };
+
+    fn from([maker, set]: [u64; 2]) -> Cover {
+        Cover { maker, set }
+    }
 }
 
 #[derive(Clone, Copy)]
@@ -135,4 +143,5 @@ pub enum Call {
     Trade(Trade),
     Apply(Application),
     Retire(Retirement),
+    Cover(Cover),
 }

@@ -4,7 +4,7 @@ ghost use Rattle.std.specs.Prelude.{◌<◌, ◌≤◌, length};
 
 use crate::words::{Word, numbers, put_words};
 use book::answers::{Answer, Refusal};
-use book::kinds::{Application, Call, Filing, Retirement, Trade};
+use book::kinds::{Application, Call, Cover, Filing, Retirement, Trade};
 use book::ledger;
 use book::ledger::Book;
 use book::posting::post;
@@ -105,6 +105,7 @@ pub(crate) fn asked_of(input: &Record) -> Option<Asked> {
         4 => Call::Retire(Retirement::from([a, b, c, d])),
         5 => Call::File(Filing::of(true, arguments)),
         6 => return Some(Asked::Text(a)),
+        7 => Call::Cover(Cover::from([a, b])),
         _ => return None,
     };
     Some(Asked::Post(call))
@@ -116,6 +117,6 @@ fn figures_of(answer: Result<Answer, Refusal>) -> [u64; 3] {
         Err(why) => [u64::from(why), 0, 0],
         Ok(Answer::Filed(part, count)) => [0, part.0.cast_unsigned(), count],
         Ok(Answer::Closed(short)) => [0, short, 0],
-        Ok(Answer::Left(mg)) => [0, mg.0, 0],
+        Ok(Answer::Left(mg) | Answer::Covered(mg)) => [0, mg.0, 0],
     }
 }

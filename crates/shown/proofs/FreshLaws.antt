@@ -4,7 +4,6 @@ use native.Mathlib.Omega.{arith}
 use mathlib.Core.List.{List, ◌++◌}
 use mathlib.Core.Logic.{◌⊎◌, inl, inr}
 use mathlib.Core.Path.{◌∙◌, ap, subst}
-use Rattle.figuring.specs.Years.{first_year}
 use Rattle.figuring.specs.Tables.{Table}
 use Rattle.book.specs.Postings.{fresh_book}
 use Rattle.book.specs.Accounts.{Opening, zero_opening}
@@ -23,16 +22,14 @@ module _ (t : Table) (input : List ℕ) where
   fresh_screen : OnScreen t fresh_book input
   fresh_screen = on_screen t fresh_book input fresh_sized fresh_sound
 
-  fresh_tells : Tells first_year zero_opening ps
-  unfolding fresh_book
-  fresh_tells = subst (λ (o : Opening). Tells first_year o ps) fresh_at_zero fresh_screen.tells
+  fresh_tells : Tells zero_opening ps
+  fresh_tells = subst (λ (o : Opening). Tells o ps) fresh_at_zero fresh_screen.tells
 
   pub from_fresh : FromFresh t input
-  unfolding fresh_book
   from_fresh =
       record {
         demands = demands t fresh_book input fresh_sized fresh_sound;
-        shows = fresh_screen.shows ∙ ap (λ (o : Opening). texts (answers t fresh_book input) ++ statement first_year o ps) fresh_at_zero;
+        shows = fresh_screen.shows ∙ ap (λ (o : Opening). texts (answers t fresh_book input) ++ statement o ps) fresh_at_zero;
         tells = fresh_tells;
         behind = λ x m. posted_behind x (fresh_tells.behind x m);
       }

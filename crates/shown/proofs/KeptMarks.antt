@@ -9,6 +9,7 @@ use Rattle.figuring.specs.Years.{first_year}
 use Rattle.book.specs.Soundness.{sound}
 use Rattle.book.specs.Refusals.{first_refusal}
 use Rattle.book.specs.Postings.{fresh_book, close_done, trade_done, application_done, retirement_done, part_for}
+use Rattle.book.specs.Covering.{cover_done}
 use Rattle.book.specs.Rules.{Request, own_rows, done, posted, posted_to}
 use Rattle.book.specs.Companions.{Sized}
 use Rattle.book.specs.Demand3.{book_after}
@@ -32,7 +33,7 @@ sound_neat b z w s =
 done_marks :
     (t : Table) (b : Book) (c : Call) → Sized b → Marks64 b → sound b ≡ true → first_refusal (own_rows t b c) ≡ Ok tt
     → Marks64 (done t b c).book
-unfolding own_rows done enter empty_at close_done trade_done application_done retirement_done
+unfolding own_rows done enter empty_at close_done trade_done application_done retirement_done cover_done
 done_marks t b (Call.File f) z w s e =
     let h = fileable t b f s e in
     (stores.keeps b (Entry.Family f.maker f.set f.family (part_for t f)) (sound_neat b z w s)
@@ -41,6 +42,7 @@ done_marks t b (Call.Close y) z w s e = (empty_neat y).bits
 done_marks t b (Call.Trade x) z w s e = w
 done_marks t b (Call.Apply p) z w s e = w
 done_marks t b (Call.Retire p) z w s e = w
+done_marks t b (Call.Cover c) z w s e = w
 
 keeps_marks : (t : Table) (b : Book) (c : Call) → Sized b → Marks64 b → Marks64 (posted t b c).book
 keeps_marks t b c z w = by_verdict t b c (λ p. Marks64 p.book) (λ r. w) (done_marks t b c z w)

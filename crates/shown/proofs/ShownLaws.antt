@@ -22,7 +22,7 @@ use Rattle.book.specs.declared.ledger.Book.{Book}
 use Rattle.book.proofs.SoundnessLaws.{sound_is, sound_lot}
 use Rattle.book.proofs.KeptSound.{sized_after}
 use Rattle.book.proofs.NeverUnsound.{never_unsound}
-use Rattle.book.proofs.Reconciliation.{demand3}
+use Rattle.book.proofs.Reconciliation.{begins, keeps_all, demand3}
 use Rattle.book.proofs.StrikeOut.{strike_out}
 use Rattle.book.proofs.FilingOrder.{filing_order}
 use Rattle.text.specs.Line.{most_digits}
@@ -32,13 +32,13 @@ use Rattle.text.specs.Listing.{listing}
 use Rattle.text.specs.Program.{terminal}
 use Rattle.text.specs.Rendered.{Small}
 use Rattle.shown.specs.Calls.{answers_of, calls, answers, postings, final_book}
-use Rattle.shown.specs.Statement.{accounts_by, year_by, Item, lot, short, items, item_figures, item_lines, statement}
+use Rattle.shown.specs.Statement.{accounts_by, Item, lot, short, items, item_figures, item_lines, statement}
 use Rattle.shown.specs.Journal.{journal_of, journal}
-use Rattle.shown.specs.Shown.{answer_after, Every, Accepts, Says, Leaves, Tells, ByCalls, Demands, OnScreen, JournalKept, FiledInAnyOrder}
+use Rattle.shown.specs.Shown.{answer_after, Every, Accepts, Says, Leaves, Moves, Tells, ByCalls, Demands, OnScreen, JournalKept, FiledInAnyOrder}
 use Rattle.shown.proofs.CallLaws.{book_by_calls, answers_by_calls, an_answer_each, book_append, answers_in_place, no_two}
-use Rattle.shown.proofs.LeftLaws.{left_by}
+use Rattle.shown.proofs.LeftLaws.{left_by, moved_by}
 use Rattle.shown.proofs.OrderLaws.{items_rise, only_items}
-use Rattle.shown.proofs.StatementLaws.{accounts_same, year_same, listing_is}
+use Rattle.shown.proofs.StatementLaws.{accounts_same, listing_is}
 use Rattle.shown.proofs.LineLaws.{item_lines_lem, item_read}
 use Rattle.shown.proofs.ItemLaws.{Exact, by_opening, each_says, says_each, says_behind}
 use Rattle.shown.proofs.JournalLaws.{Written, written_calls, written_kept, written_take, journal_read, answers_accepted, first_accepted, lines_accepted, accepted_again, cut_journal}
@@ -58,6 +58,16 @@ left_says b z before r n e =
     subst (λ (a : Accounts). Leaves a r.call n) (accounts_are b (before ++ r ∷ []))
     (left_by r.table (D.book_after b before) r.call n (sized_after b before z) e (accounts_after b (before ++ r ∷ []))
     (λ k i. subst (λ (c : Book). Reconciled c (accounts_after b (before ++ r ∷ [])) k) (book_append before (r ∷ []) b) ((demand3 b z (before ++ r ∷ [])).reconciled k i)))
+
+moved_says :
+    (b : Book) → Sized b → (before : List Request) (r : Request) (n : ℕ)
+    → answer_after b before r ≡ Ok (Answer.Covered (record { 0 = n }))
+    → Moves (accounts_by (opening_of b) (accepted_only b before)) r.call n
+unfolding accounts_from
+moved_says b z before r n e =
+    subst (λ (a : Accounts). Moves a r.call n) (accounts_are b before)
+    (moved_by r.table (D.book_after b before) r.call n e (accounts_after b before)
+    (keeps_all before b (begun_with (opening_of b)) (begins b z)))
 
 module _ (t : Table) (b : Book) (input : List ℕ) where
   pub by_calls : ByCalls t b input
@@ -92,13 +102,15 @@ module _ (t : Table) (b : Book) (input : List ℕ) where
     abbrev A : Accounts
     A = accounts_by (opening_of b) (postings t b input)
 
-    year_is : (final_book t b input).open_year ≡ year_by b.open_year (postings t b input)
-    year_is = ap (λ (c : Book). c.open_year) by_calls.book ∙ year_same b (calls t input)
+    year_is : (final_book t b input).open_year ≡ A.open_year
+    year_is =
+        ap (λ (c : Book). c.open_year) by_calls.book ∙ sym (demand3 b z (calls t input)).year
+        ∙ ap (λ (a : Accounts). a.open_year) (accounts_are b (calls t input))
 
     by_postings : (k : Key) → In k → Reconciled (final_book t b input) A k
     by_postings k i = subst (λ (a : Accounts). Reconciled (final_book t b input) a k) (accounts_are b (calls t input)) (reconciled k i)
 
-    listed : listing (final_book t b input) ≡ statement b.open_year (opening_of b) (postings t b input)
+    listed : listing (final_book t b input) ≡ statement (opening_of b) (postings t b input)
     listed =
         listing_is (final_book t b input) A (sound_is (final_book t b input) is_sound) by_postings
         ∙ ap (λ (y : ℕ). item_lines y (items A)) year_is
@@ -124,7 +136,7 @@ module _ (t : Table) (b : Book) (input : List ℕ) where
     exactly : (x : Item) → Among x (items A) ↔ Says A x
     exactly x = (says x, says_each A exact x)
 
-    tells : Tells b.open_year (opening_of b) (postings t b input)
+    tells : Tells (opening_of b) (postings t b input)
     tells =
         record {
           opening = by_opening (opening_of b) (postings t b input);
@@ -132,8 +144,8 @@ module _ (t : Table) (b : Book) (input : List ℕ) where
           rises = items_rise A;
           only = λ xs h k. only_items (Says A) xs (items A) h exactly k (items_rise A);
           behind = λ x m. says_behind (opening_of b) (postings t b input) x (says x m);
-          lines = item_lines_lem (year_by b.open_year (postings t b input)) (items A);
-          figures = λ x m. item_read (year_by b.open_year (postings t b input)) x (small x (says x m));
+          lines = item_lines_lem A.open_year (items A);
+          figures = λ x m. item_read A.open_year x (small x (says x m));
         }
 
     pub on_screen : OnScreen t b input
@@ -144,6 +156,7 @@ module _ (t : Table) (b : Book) (input : List ℕ) where
           listed = listed;
           tells = tells;
           left = λ before r after n e f. left_says b z before r n f;
+          moved = λ before r after n e f. moved_says b z before r n f;
         }
 
   -- ---- the journal

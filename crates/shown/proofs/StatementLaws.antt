@@ -10,23 +10,18 @@ use lib.Dec.{ltb, eqb}
 use lib.ListN.{get_or, drop}
 use Rattle.std.specs.Prelude.{Option, Some, None}
 use Rattle.figuring.specs.Years.{first_year, last_year}
-use Rattle.figuring.specs.Tables.{Table}
 use Rattle.book.specs.Sizes.{makers, sets, years}
 use Rattle.book.specs.Ledger.{Key, key, In, figure_at}
 use Rattle.figuring.specs.Life.{closed_year, live, expired, open_short, overdue}
 use Rattle.book.specs.Listing.{is_cell_year, lot_entry, shortage_entry}
-use Rattle.book.specs.Accounts.{Accounts, move, feed, feed_all}
-use Rattle.book.specs.Postings.{stored, close_done, trade_done, application_done, retirement_done}
-use Rattle.book.specs.Rules.{Request, posted_to, done}
-use Rattle.book.specs.Demand3.{is_accepted, history, book_after, Reconciled}
+use Rattle.book.specs.Accounts.{Accounts, move, feed, feed_all, lot_by, shortage_by}
+use Rattle.book.specs.Rules.{Request, posted_to}
+use Rattle.book.specs.Demand3.{is_accepted, history, Reconciled}
 use Rattle.book.specs.Companions.{keep_if, accepted_only}
 use Rattle.book.specs.declared.ledger.Book.{Book}
-use Rattle.book.specs.declared.kinds.Call.{Call}
 use Rattle.book.specs.declared.listing.LotEntry.{LotEntry}
 use Rattle.book.specs.declared.listing.ShortageEntry.{ShortageEntry}
-use Rattle.book.proofs.TableLaws.{by_verdict}
 use Rattle.book.proofs.SoundnessLaws.{Sound}
-use Rattle.book.proofs.CallLaws.{lawful}
 use Rattle.text.specs.Gather.{gather}
 use Rattle.text.specs.Ascii.{ascii}
 use Rattle.text.specs.Numeral.{numeral}
@@ -34,9 +29,9 @@ use Rattle.text.specs.Pattern.{filled, hash, choose}
 use Rattle.text.specs.Desk.{line_feed}
 use Rattle.text.specs.Listing.{lot_text, shortage_text, lot_line, shortage_line, cell_text, maker_text, listing}
 use Rattle.text.proofs.GatherLaws.{gather_through}
-use Rattle.shown.specs.Statement.{as_posting, year_after, year_by, lot_by, shortage_by, Item, lot, short, above0, lot_item, short_item, cell_items, items, item_line, item_lines}
+use Rattle.shown.specs.Statement.{as_posting, Item, lot, short, above0, lot_item, short_item, cell_items, items, item_line, item_lines}
 
--- ---- the accounts and the open year see the accepted calls alone
+-- ---- the accounts see the accepted calls alone
 pub accounts_same :
     (a : Accounts) (b : Book) (rs : List Request) → feed_all a (history b rs) ≡ feed_all a (map as_posting (accepted_only b rs))
 unfolding feed_all history accepted_only feed
@@ -50,28 +45,6 @@ accounts_same a b (r ∷ rs) = go (is_accepted (posted_to b r).answer) (λ x. ac
         ≡ feed_all a (map as_posting (keep_if e r (accepted_only (posted_to b r).book rs)))
     go true ih = ih (move r.table a r.call)
     go false ih = ih a
-
-year_done : (t : Table) (b : Book) (c : Call) → year_after c b.open_year ≡ (done t b c).book.open_year
-unfolding done stored close_done trade_done application_done retirement_done
-year_done t b (Call.File f) = refl
-year_done t b (Call.Close y) = refl
-year_done t b (Call.Trade x) = refl
-year_done t b (Call.Apply p) = refl
-year_done t b (Call.Retire p) = refl
-
-year_posted :
-    (b : Book) (r : Request) (rest : List Request)
-    → year_by b.open_year (keep_if (is_accepted (posted_to b r).answer) r rest) ≡ year_by (posted_to b r).book.open_year rest
-unfolding is_accepted year_by
-year_posted b r rest =
-    by_verdict r.table b r.call
-    (λ p. year_by b.open_year (keep_if (is_accepted p.answer) r rest) ≡ year_by p.book.open_year rest) (λ w. refl)
-    (λ s e. rw (lawful r.table b r.call s e).answered (ap (λ (y : ℕ). year_by y rest) (year_done r.table b r.call)))
-
-pub year_same : (b : Book) (rs : List Request) → (book_after b rs).open_year ≡ year_by b.open_year (accepted_only b rs)
-unfolding book_after accepted_only year_by
-year_same b [] = refl
-year_same b (r ∷ rs) = year_same (posted_to b r).book rs ∙ sym (year_posted b r (accepted_only (posted_to b r).book rs))
 
 -- ---- one line
 filled_end : (p ns : List ℕ) → filled (p ++ line_feed ∷ []) ns ≡ filled p ns ++ line_feed ∷ []

@@ -27,8 +27,7 @@ pub record GoesOn (t : Table) (b : Book) (first : List ℕ) (c : Book) (rest : L
   -- the first one with all that was posted since
   pub counts :
       Sized b → sound b ≡ true
-      → statement c.open_year (opening_of c) (postings t c rest)
-      ≡ statement b.open_year (opening_of b) (postings t b (first ++ rest))
+      → statement (opening_of c) (postings t c rest) ≡ statement (opening_of b) (postings t b (first ++ rest))
 
 -- 6, moving: the new terminal begins with the book that the first left.
 abbrev pub MovesOn : Table → Book → List ℕ → List ℕ → Type 0

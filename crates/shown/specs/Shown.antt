@@ -3,7 +3,6 @@
 -- are of sound books, `FromFresh` says them of the fresh one; Moving has those of two terminals. src/claims.rt holds
 -- each to its proof.
 use Rattle.std.specs.Prelude.{ℕ, suc, ◌+◌, ◌<◌, ◌≤◌, true, List, [], ◌∷◌, ◌++◌, map, ◌↔◌, ◌⊎◌, ◌≡◌, length, take, Some, Ok}
-use Rattle.figuring.specs.Years.{first_year}
 use Rattle.figuring.specs.Tables.{Table}
 use Rattle.book.specs.Ledger.{Key, In}
 use Rattle.book.specs.Soundness.{sound}
@@ -13,7 +12,8 @@ use Rattle.book.specs.Rules.{Request, posted_to}
 use Rattle.book.specs.Companions.{Sized, accepted_only}
 use Rattle.book.specs.Orders.{Among, Reordered}
 use Rattle.book.specs.FilingOrder.{Lodged, filings, NoTwoAlike}
-use Rattle.book.specs.Accounts.{Opening, zero_opening, Accounts}
+use Rattle.book.specs.Coverage.{coverage, total}
+use Rattle.book.specs.Accounts.{Opening, zero_opening, Accounts, in_accounts}
 use Rattle.book.specs.Accounts.{bought, sold, applied, retired, covered}
 use Rattle.book.specs.Demand3 as D
 use Rattle.book.specs.Demand3.{is_accepted, opening_of, accounts_after, Reconciled, Demand3}
@@ -27,7 +27,7 @@ use Rattle.text.specs.Lines.{lines_of, answers_to}
 use Rattle.text.specs.Listing.{listing}
 use Rattle.text.specs.Program.{terminal}
 use Rattle.shown.specs.Calls.{calls, answers, answers_of, texts, postings, final_book}
-use Rattle.shown.specs.Statement.{accounts_by, year_by, Item, lot, short, items, rank}
+use Rattle.shown.specs.Statement.{accounts_by, Item, lot, short, items, rank}
 use Rattle.shown.specs.Statement.{item_pattern, item_figures, item_line, statement}
 use Rattle.shown.specs.Journal.{journal_of, journal}
 
@@ -88,6 +88,17 @@ Leaves a (Call.Apply p) n = LeftInLot a (applied_lot p) n
 Leaves a (Call.Retire p) n = LeftInLot a (retired_lot p) n
 Leaves a (Call.File f) n = ⊥
 Leaves a (Call.Close y) n = ⊥
+Leaves a (Call.Cover c) n = ⊥
+
+-- what the answer to a cover says by its Mg: card 9's "Mg moved", those of the applications (`made_by`) that the accounts
+-- just before it figure for it
+abbrev pub Moves : Accounts → Call → ℕ → Type 0
+Moves a (Call.Cover c) n = n ≡ total (coverage (in_accounts a c))
+Moves a (Call.File f) n = ⊥
+Moves a (Call.Close y) n = ⊥
+Moves a (Call.Trade t) n = ⊥
+Moves a (Call.Apply p) n = ⊥
+Moves a (Call.Retire p) n = ⊥
 
 -- a posting that brought Mg into a line: the close of its year, which earned or lacked some there; or, for a lot, a
 -- trade to it
@@ -97,11 +108,13 @@ Brings a (lot k n) (Call.Trade t) = (buyer_lot t ≡ k) × (0 < t.mg)
 Brings a (lot k n) (Call.File f) = ⊥
 Brings a (lot k n) (Call.Apply p) = ⊥
 Brings a (lot k n) (Call.Retire p) = ⊥
+Brings a (lot k n) (Call.Cover c) = ⊥
 Brings a (short k n) (Call.Close y) = (y ≡ k.year) × (0 < a.shortfall k)
 Brings a (short k n) (Call.Trade t) = ⊥
 Brings a (short k n) (Call.File f) = ⊥
 Brings a (short k n) (Call.Apply p) = ⊥
 Brings a (short k n) (Call.Retire p) = ⊥
+Brings a (short k n) (Call.Cover c) = ⊥
 
 -- Mg that a line began with: an opening figure of its key is above 0
 abbrev pub Opens : Opening → Item → Type 0
@@ -119,10 +132,10 @@ abbrev pub Rising : ℕ → List Item → Type 0
 Rising n [] = Unit {0}
 Rising n (x ∷ xs) = (n ≤ rank x) × Rising (suc (rank x)) xs
 
--- what the statement of postings, begun in the open year Y with the opening figures o, tells by their accounts: a line
--- stands in it exactly where they say so, so that each line shown has its balance, and each balance above 0 is shown;
--- and each line has an opening figure or a posting behind it
-pub record Tells (Y : ℕ) (o : Opening) (ps : List Request) : Type 0 where
+-- what the statement of postings, begun with the opening figures o, tells by their accounts: a line stands in it exactly
+-- where they say so, so that each line shown has its balance, and each balance above 0 is shown; and each line has an
+-- opening figure or a posting behind it
+pub record Tells (o : Opening) (ps : List Request) : Type 0 where
   -- what the accounts count from
   pub opening : (accounts_by o ps).opening ≡ o
   pub exactly : (x : Item) → Among x (items (accounts_by o ps)) ↔ Says (accounts_by o ps) x
@@ -133,24 +146,30 @@ pub record Tells (Y : ℕ) (o : Opening) (ps : List Request) : Type 0 where
       → xs ≡ items (accounts_by o ps)
   pub behind : (x : Item) → Among x (items (accounts_by o ps)) → Opens o x ⊎ One (Brings (accounts_by o ps) x) ps
   -- the items are the text's lines, and the figures in a line, read back as a form's are read, are the item's
-  pub lines : lines_of (statement Y o ps) ≡ map (item_line (year_by Y ps)) (items (accounts_by o ps))
+  pub lines : lines_of (statement o ps) ≡ map (item_line (accounts_by o ps).open_year) (items (accounts_by o ps))
   pub figures :
       (x : Item) → Among x (items (accounts_by o ps))
-      → fit most_digits (item_pattern (year_by Y ps) x) (item_line (year_by Y ps) x) ≡ Some (item_figures x)
+      → let Y = (accounts_by o ps).open_year in
+      fit most_digits (item_pattern Y x) (item_line Y x) ≡ Some (item_figures x)
 
--- 3, the sentence on the screen: what is shown is the answers, then the statement of the postings, counted from the open
--- year and the opening figures of the book, and nothing else.
+-- 3, the sentence on the screen: what is shown is the answers, then the statement of the postings, counted from the
+-- opening figures of the book, and nothing else.
 pub record OnScreen (t : Table) (b : Book) (input : List ℕ) : Type 0 where
   pub shows :
       terminal t b input
-      ≡ texts (answers t b input) ++ statement b.open_year (opening_of b) (postings t b input)
-  pub listed : listing (final_book t b input) ≡ statement b.open_year (opening_of b) (postings t b input)
-  pub tells : Tells b.open_year (opening_of b) (postings t b input)
-  -- the Mg of an answer, by the accounts of the postings up to its own
+      ≡ texts (answers t b input) ++ statement (opening_of b) (postings t b input)
+  pub listed : listing (final_book t b input) ≡ statement (opening_of b) (postings t b input)
+  pub tells : Tells (opening_of b) (postings t b input)
+  -- the Mg that an answer says are left, by the accounts of the postings up to its own
   pub left :
       (before : List Request) (r : Request) (after : List Request) (n : ℕ) → calls t input ≡ before ++ r ∷ after
       → answer_after b before r ≡ Ok (Answer.Left (record { 0 = n }))
       → Leaves (accounts_by (opening_of b) (accepted_only b (before ++ r ∷ []))) r.call n
+  -- the Mg that a cover's answer says it moved, by the accounts of the postings before it
+  pub moved :
+      (before : List Request) (r : Request) (after : List Request) (n : ℕ) → calls t input ≡ before ++ r ∷ after
+      → answer_after b before r ≡ Ok (Answer.Covered (record { 0 = n }))
+      → Moves (accounts_by (opening_of b) (accepted_only b before)) r.call n
 
 -- of the program's terminal, which "starts from a fresh book": its statement is counted from 2014 and from zero, so that
 -- each of its lines has a posting behind it.
@@ -158,8 +177,8 @@ pub record FromFresh (t : Table) (input : List ℕ) : Type 0 where
   pub demands : Demands t fresh_book input
   pub shows :
       terminal t fresh_book input
-      ≡ texts (answers t fresh_book input) ++ statement first_year zero_opening (postings t fresh_book input)
-  pub tells : Tells first_year zero_opening (postings t fresh_book input)
+      ≡ texts (answers t fresh_book input) ++ statement zero_opening (postings t fresh_book input)
+  pub tells : Tells zero_opening (postings t fresh_book input)
   pub behind :
       (x : Item) → Among x (items (accounts_by zero_opening (postings t fresh_book input)))
       → One (Brings (accounts_by zero_opening (postings t fresh_book input)) x) (postings t fresh_book input)

@@ -1,14 +1,12 @@
--- The statement that postings come to: a function of the open year and the opening figures that they begin with, and of
--- the accepted calls, each with the table that it was handed, by their accounts; and of no book.
+-- The statement that postings come to: a function of the opening figures that they begin with, the open year among them,
+-- and of the accepted calls, each with the table that it was handed, by their accounts; and of no book.
 use Rattle.std.specs.Prelude.{ℕ, zero, suc, ◌+◌, ◌-◌, ◌*◌, cond, List, [], ◌∷◌, ◌++◌, map}
 use Rattle.figuring.specs.Years.{first_year}
 use Rattle.book.specs.Sizes.{makers, sets, years}
 use Rattle.book.specs.Ledger.{Key, key, cell}
 use Rattle.figuring.specs.Life.{live, open_short}
 use Rattle.book.specs.Rules.{Request}
-use Rattle.book.specs.Accounts.{Opening, Accounts, Entry, as_accepted, accounts_from}
-use Rattle.book.specs.Accounts.{bought, sold, applied, retired, covered}
-use Rattle.book.specs.declared.kinds.Call.{Call}
+use Rattle.book.specs.Accounts.{Opening, Accounts, Entry, as_accepted, accounts_from, lot_by, shortage_by}
 use Rattle.text.specs.Ascii.{ascii}
 use Rattle.text.specs.Pattern.{filled}
 use Rattle.text.specs.Gather.{gather}
@@ -22,25 +20,6 @@ as_posting r = as_accepted r.table r.call
 unfoldable pub accounts_by : Opening → List Request → Accounts
 accounts_by o ps = accounts_from o (map as_posting ps)
 
--- the open year that postings come to: the one that they began with, and one more for each close
-abbrev pub year_after : Call → ℕ → ℕ
-year_after (Call.File f) Y = Y
-year_after (Call.Close y) Y = Y + 1
-year_after (Call.Trade t) Y = Y
-year_after (Call.Apply p) Y = Y
-year_after (Call.Retire p) Y = Y
-
-unfoldable pub year_by : ℕ → List Request → ℕ
-year_by Y [] = Y
-year_by Y (r ∷ rs) = year_by (year_after r.call Y) rs
-
--- what a lot and a shortage come to by the accounts. No difference here stops at zero: `Tells.exactly` of Shown
-abbrev pub lot_by : Accounts → Key → ℕ
-lot_by a k = a.opening.lot k + a.earned k + a.mg bought k - (a.mg sold k + a.mg applied k + a.mg retired k)
-
-abbrev pub shortage_by : Accounts → Key → ℕ
-shortage_by a k = a.opening.shortage k + a.shortfall k - a.mg covered k
-
 -- a line of the statement: a lot or a shortage, with its Mg
 pub data Item : Type 0 where
   lot : Key → ℕ → Item
@@ -51,7 +30,8 @@ abbrev pub above0 : ℕ → Item → List Item
 above0 zero x = []
 above0 (suc n) x = x ∷ []
 
--- a cell's lots, then its shortages, by year; i counts the years from the first
+-- a cell's lots, then its shortages, by year; i counts the years from the first. No difference of the accounts stops at
+-- zero here: `Tells.exactly` of Shown
 abbrev pub lot_item : Accounts → ℕ → ℕ → ℕ → List Item
 lot_item a m s i = let k = key m s (first_year + i) in above0 (lot_by a k) (lot k (lot_by a k))
 
@@ -88,6 +68,6 @@ unfoldable pub item_lines : ℕ → List Item → List ℕ
 item_lines Y [] = []
 item_lines Y (x ∷ xs) = item_line Y x ++ line_feed ∷ item_lines Y xs
 
--- what postings come to, begun in the open year Y with the opening figures o, printed
-abbrev pub statement : ℕ → Opening → List Request → List ℕ
-statement Y o ps = item_lines (year_by Y ps) (items (accounts_by o ps))
+-- what postings come to, begun with the opening figures o, printed
+abbrev pub statement : Opening → List Request → List ℕ
+statement o ps = item_lines (accounts_by o ps).open_year (items (accounts_by o ps))

@@ -30,7 +30,8 @@ pub fn demands() -> bool
     true
 }
 
-// The sentence on the screen: every Mg shown is the balance of opening figures and accepted postings.
+// The sentence on the screen: every Mg shown is the balance of opening figures and accepted postings, or what a cover
+// moved by their accounts.
 pub fn on_screen() -> bool
     ensures { (result ≡ true)
         × ((t : Table) (b : Book) (input : List ℕ) → Sized b → sound b ≡ true → OnScreen t b input) }

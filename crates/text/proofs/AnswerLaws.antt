@@ -38,6 +38,10 @@ pub left_text : (m : Mg) → text_of (Ok (Answer.Left m)) ≡ filled (ascii "(ok
 unfolding text_of refusal_in values_in filled
 left_text m = refl
 
+pub covered_text : (m : Mg) → text_of (Ok (Answer.Covered m)) ≡ filled (ascii "(ok #)\n") (m.0 ∷ [])
+unfolding text_of refusal_in values_in filled
+covered_text m = refl
+
 -- a filing's pattern is that of its part's sign; z is the part as the code reads it
 pub filed_text :
     {x z : ℤ} {m : ℕ} (k : ℕ) → z ≡ x → m ≡ nat_abs z
@@ -52,7 +56,7 @@ filed_text {x} {z} k s e = rw (← s, e) (go z)
     go (negsuc n) = refl
 
 -- the texts that are one pattern, and how long a pattern can be filled
-pub ruleset texts = (refused_text, closed_text, left_text, filled_length)
+pub ruleset texts = (refused_text, closed_text, left_text, covered_text, filled_length)
 
 -- ---- no answer's line is longer than its room
 short : (p ns : List ℕ) → T (leb (length p + 20 * hashes p) answer_room) → length (filled p ns) ≤ answer_room
@@ -68,3 +72,4 @@ text_length (Ok (Answer.Filed p k)) = rw (← filed_text {x = p.0} {m = nat_abs 
     go (negsuc n) = short _ _ tt
 text_length (Ok (Answer.Closed k)) = rw closed_text (short _ _ tt)
 text_length (Ok (Answer.Left m)) = rw left_text (short _ _ tt)
+text_length (Ok (Answer.Covered m)) = rw covered_text (short _ _ tt)

@@ -34,8 +34,9 @@ run =
     }
 
 pub fields : Fields
-unfolding line_of line_at fit number leading value worth
-fields = record { file = refl; amend = refl; trade = refl; apply = refl; retire = refl }
+unfolding line_of line_at fit number leading value worth text_of refusal_in values_in filled numeral_of
+fields =
+    record { file = refl; amend = refl; trade = refl; apply = refl; retire = refl; cover = refl; covered = refl }
 
 pub edges : Edges
 unfolding line_of line_at fit number leading value worth lines_from
@@ -53,6 +54,7 @@ edges =
       carriage_return = refl;
       no_edition = refl;
       other_order = refl;
+      cover_mg = refl;
       rest_of_160 = refl;
       rest_of_161 = refl;
       empty_line = refl;

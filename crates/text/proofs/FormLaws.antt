@@ -111,6 +111,7 @@ formed (Call.Close x) = record { place = 2; is_there = refl; count = refl; made 
 formed (Call.Trade x) = record { place = 3; is_there = refl; count = refl; made = refl }
 formed (Call.Apply x) = record { place = 4; is_there = refl; count = refl; made = refl }
 formed (Call.Retire x) = record { place = 5; is_there = refl; count = refl; made = refl }
+formed (Call.Cover x) = record { place = 6; is_there = refl; count = refl; made = refl }
 
 -- every form of a list passes a test
 unfoldable pub every : (Form → Bool) → List Form → Bool

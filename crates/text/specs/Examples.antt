@@ -55,7 +55,8 @@ pub record Run : Type 0 where
   pub lot : lot_text 0 3 2014 (Some (LotEntry.Live (record { 0 = 11980 }))) ≡ ascii "(lot 0 3 2014 live 11980)\n"
   pub short : shortage_text 1 3 2014 (Some (ShortageEntry.Open (record { 0 = 61 }))) ≡ ascii "(short 1 3 2014 open 61)\n"
 
--- Each figure goes to the field that stands before it: no two of a line are the same here, as some of the run's are.
+-- Each figure goes to the field that stands before it: no two of a line are the same here, as some of the run's are. And a
+-- cover's answer, of which the run has none.
 pub record Fields : Type 0 where
   pub file :
       ascii "(file (maker 1) (set 2) (year 2025) (use 0) (edition 3) (family 4) (fcl 5) (cf 6) (volume 7) (life 8))"
@@ -96,6 +97,8 @@ pub record Fields : Type 0 where
   pub retire :
       ascii "(retire (maker 1) (set 2) (vintage 3) (mg 4))"
       reads Call.Retire (record { maker = 1; set = 2; vintage = 3; mg = 4 })
+  pub cover : ascii "(cover (maker 1) (set 2))" reads Call.Cover (record { maker = 1; set = 2 })
+  pub covered : text_of (Ok (Answer.Covered (record { 0 = 130 }))) ≡ ascii "(ok 130)\n"
 
 pub record Edges : Type 0 where
   pub zero : ascii "(close (year 0))" reads Call.Close 0
@@ -112,6 +115,8 @@ pub record Edges : Type 0 where
   pub no_edition :
       NoForm (ascii "(file (maker 0) (set 3) (year 2014) (use 1) (family 0) (fcl 465) (cf 280000) (volume 1000) (life 435))")
   pub other_order : NoForm (ascii "(apply (maker 1) (set 3) (year 2014) (vintage 2014) (mg 261))")
+  -- a cover names no amount
+  pub cover_mg : NoForm (ascii "(cover (maker 1) (set 2) (mg 3))")
   -- a form at a place of a line of 160 bytes, and of a line of 161
   pub rest_of_160 : line_at (replicate 141 32 ++ ascii "(close (year 2014))") 141 ≡ Some (Call.Close 2014)
   pub rest_of_161 : line_at (replicate 142 32 ++ ascii "(close (year 2014))") 142 ≡ None

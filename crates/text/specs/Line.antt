@@ -2,7 +2,7 @@
 use Rattle.std.specs.Prelude.{ℕ, Bool, true, false, cond, List, [], ◌∷◌, ◌++◌, ltb, length, drop, Option, None, option_map}
 use Rattle.std.specs.Option.{option_or}
 pub use Rattle.book.specs.Calls.{figure}
-use Rattle.book.specs.Calls.{filing_of, trade_of, application_of, retirement_of}
+use Rattle.book.specs.Calls.{filing_of, trade_of, application_of, retirement_of, cover_of}
 use Rattle.book.specs.declared.kinds.Call.{Call}
 use Rattle.text.specs.Ascii.{ascii}
 use Rattle.text.specs.Pattern.{fit}
@@ -59,9 +59,13 @@ retire =
       call = λ n. Call.Retire (retirement_of n);
     }
 
+-- Card 9
+abbrev pub cover : Form
+cover = record { pattern = ascii "(cover (maker #) (set #))"; call = λ n. Call.Cover (cover_of n) }
+
 -- the forms, in the order in which they are tried
 abbrev pub forms : List Form
-forms = file ∷ amend ∷ close ∷ trade ∷ apply ∷ retire ∷ []
+forms = file ∷ amend ∷ close ∷ trade ∷ apply ∷ retire ∷ cover ∷ []
 
 -- the call that a text is by a form, if it fits it
 abbrev pub call_in : Form → List ℕ → Option Call

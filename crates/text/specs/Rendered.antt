@@ -7,7 +7,7 @@ use Rattle.book.specs.declared.ledger.Book.{Book}
 use Rattle.book.specs.declared.kinds.Call.{Call}
 use Rattle.book.specs.declared.kinds.Filing.{Filing}
 use Rattle.text.specs.Pattern.{filled}
-use Rattle.text.specs.Line.{Form, file, amend, close, trade, apply, retire, line_of, longest_line, most_digits}
+use Rattle.text.specs.Line.{Form, file, amend, close, trade, apply, retire, cover, line_of, longest_line, most_digits}
 
 abbrev pub filing_form : Bool → Form
 filing_form false = file
@@ -19,6 +19,7 @@ form_of (Call.Close x) = close
 form_of (Call.Trade x) = trade
 form_of (Call.Apply x) = apply
 form_of (Call.Retire x) = retire
+form_of (Call.Cover x) = cover
 
 abbrev pub figures_in : Call → List ℕ
 figures_in (Call.File x) =
@@ -37,6 +38,7 @@ figures_in (Call.Close x) = x ∷ []
 figures_in (Call.Trade x) = x.from ∷ x.to ∷ x.set ∷ x.vintage ∷ x.mg ∷ []
 figures_in (Call.Apply x) = x.maker ∷ x.set ∷ x.vintage ∷ x.year ∷ x.mg ∷ []
 figures_in (Call.Retire x) = x.maker ∷ x.set ∷ x.vintage ∷ x.mg ∷ []
+figures_in (Call.Cover x) = x.maker ∷ x.set ∷ []
 
 -- a call's text: its form, with its figures in the places
 abbrev pub rendered : Call → List ℕ

@@ -61,7 +61,7 @@ pub(crate) fn write_answer(page: &mut Page, answer: Result<Answer, Refusal>)
         Err(why) => page.fill(b"(no #)\n", &[u64::from(why)]),
         Ok(Answer::Filed(part, k)) => put_filed(page, part.0, k),
         Ok(Answer::Closed(k)) => page.fill(b"(ok #)\n", &[k]),
-        Ok(Answer::Left(mg)) => page.fill(b"(ok #)\n", &[mg.0]),
+        Ok(Answer::Left(mg) | Answer::Covered(mg)) => page.fill(b"(ok #)\n", &[mg.0]),
     }
 }
 

@@ -1,13 +1,13 @@
-// The forms of document 01, and card 6's: a line to a call.
+// The forms of document 01 and of the cards: a line to a call.
 #![tactic(auto, unfolding(crate::specs::Pattern::hashes))]
 
 ghost use Rattle.std.specs.Prelude.{◌≡◌, option_map};
 ghost use Rattle.book.specs.declared.kinds.Call.{Call};
 ghost use Rattle.text.specs.Pattern.{fit, hashes};
-ghost use Rattle.text.specs.Line.{file, amend, close, trade, apply, retire, forms, filing_call, most_digits, call_in, first_form, line_at};
+ghost use Rattle.text.specs.Line.{file, amend, close, trade, apply, retire, cover, forms, filing_call, most_digits, call_in, first_form, line_at};
 
 use crate::patterns::fitted;
-use book::kinds::{Application, Call, Filing, Retirement, Trade};
+use book::kinds::{Application, Call, Cover, Filing, Retirement, Trade};
 
 // The most bytes of a line before its line feed, and the most digits of a number in it.
 pub const LONGEST_LINE: usize = 160;
@@ -35,6 +35,7 @@ fn first_form(line: &[u8]) -> Option<Call>
         .or_else(|| trade(line))
         .or_else(|| apply(line))
         .or_else(|| retire(line))
+        .or_else(|| cover(line))
 }
 
 fn file(line: &[u8]) -> Option<Call>
@@ -105,4 +106,11 @@ fn retire(line: &[u8]) -> Option<Call>
         MOST_DIGITS,
     )?;
     Some(Call::Retire(Retirement::from(figures)))
+}
+
+fn cover(line: &[u8]) -> Option<Call>
+    ensures { result ≡ call_in cover line.now }
+{
+    let figures = fitted::<2>(b"(cover (maker #) (set #))", line, MOST_DIGITS)?;
+    Some(Call::Cover(Cover::from(figures)))
 }

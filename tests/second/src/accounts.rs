@@ -1,11 +1,12 @@
 //! The accounts of a whole list of calls: fed the calls' arguments, the table
 //! that each was handed, and, of each answer, only whether it was a refusal.
-//! Of the book that the list begins with they have their opening figures;
-//! nothing else is read from a book.
+//! Of the book that the list begins with they have their opening figures and
+//! its open year; nothing else is read from a book.
 
 use crate::book::{cell, Book, CELLS, FAMILIES, MAKERS, SETS};
-use crate::figuring::{part, rounded, year_index, Part, YEARS};
-use crate::postings::{Call, Filing};
+use crate::covering::oldest_first;
+use crate::figuring::{part, rounded, year_index, Mg, Part, FIRST_YEAR, YEARS};
+use crate::postings::{Application, Call, Cover, Filing};
 use crate::standards::Table;
 use std::array;
 use std::collections::BTreeMap;
@@ -61,12 +62,15 @@ pub struct OutOfPlace;
 
 #[derive(Clone, Debug, PartialEq, Eq)]
 pub struct Accounts {
+    /// That of the first book, and one more for each accepted close.
+    open_year: u64,
     by_cell: Vec<[Account; YEARS]>,
 }
 
 impl Default for Accounts {
     fn default() -> Self {
         Accounts {
+            open_year: FIRST_YEAR,
             by_cell: vec![array::from_fn(|_| Account::default()); CELLS],
         }
     }
@@ -75,7 +79,10 @@ impl Default for Accounts {
 impl Accounts {
     /// Of a list that begins with this book.
     pub fn opened(book: &Book) -> Self {
-        let mut accounts = Accounts::default();
+        let mut accounts = Accounts {
+            open_year: book.open_year,
+            ..Accounts::default()
+        };
         for (cell, years) in accounts.by_cell.iter_mut().enumerate() {
             for (year, account) in years.iter_mut().enumerate() {
                 account.opening_lot = book.lots[cell][year].0.into();
@@ -101,15 +108,31 @@ impl Accounts {
                 self.account_mut(c.from, c.set, c.vintage)?.sold += i128::from(c.mg);
                 self.account_mut(c.to, c.set, c.vintage)?.bought += i128::from(c.mg);
             }
-            Call::Apply(c) => {
-                self.account_mut(c.maker, c.set, c.vintage)?.applied += i128::from(c.mg);
-                self.account_mut(c.maker, c.set, c.year)?.covered += i128::from(c.mg);
-            }
+            Call::Apply(application) => self.apply(application)?,
             Call::Retire(c) => {
                 self.account_mut(c.maker, c.set, c.vintage)?.retired += i128::from(c.mg);
             }
+            Call::Cover(cover) => {
+                for application in self.made_by(cover)? {
+                    self.apply(&application)?;
+                }
+            }
         }
         Ok(())
+    }
+
+    pub fn open_year(&self) -> u64 {
+        self.open_year
+    }
+
+    /// The applications that a cover put now counts as, by its rule from these
+    /// balances.
+    pub fn made_by(&self, cover: &Cover) -> Result<Vec<Application>, OutOfPlace> {
+        let (cell, _) = place(cover.maker, cover.set, FIRST_YEAR)?;
+        let years = &self.by_cell[cell];
+        let lots = array::from_fn(|year| payable(years[year].lot()));
+        let shortages = array::from_fn(|year| payable(years[year].shortage()));
+        Ok(oldest_first(cover, self.open_year, lots, shortages))
     }
 
     pub fn account(&self, maker: u64, set: u64, year: u64) -> Result<&Account, OutOfPlace> {
@@ -142,8 +165,21 @@ impl Accounts {
         for years in &mut self.by_cell {
             years[year].close();
         }
+        self.open_year += 1;
         Ok(())
     }
+
+    fn apply(&mut self, c: &Application) -> Result<(), OutOfPlace> {
+        self.account_mut(c.maker, c.set, c.vintage)?.applied += i128::from(c.mg);
+        self.account_mut(c.maker, c.set, c.year)?.covered += i128::from(c.mg);
+        Ok(())
+    }
+}
+
+/// What of a balance an application can name; of one below 0, which no book
+/// has, nothing.
+fn payable(balance: i128) -> Mg {
+    Mg(balance.clamp(0, u64::MAX.into()) as u64)
 }
 
 fn filed_parts(book: &Book, cell: usize) -> BTreeMap<u64, Part> {

@@ -2,8 +2,8 @@
 
 use crate::accounts::{place, Accounts, OutOfPlace};
 use crate::book::{Book, MAKERS, SETS};
-use crate::figuring::{FIRST_YEAR, LAST_YEAR};
-use crate::postings::{Application, Call};
+use crate::figuring::{is_live, is_open, Mg, FIRST_YEAR, LAST_YEAR, YEARS};
+use crate::postings::{post, Application, Call, Cover, Results};
 use crate::standards::Table;
 
 /// A claim of the paper that does not hold, in words.
@@ -42,19 +42,86 @@ impl Audit {
         if !accepted {
             return hold(before == after, || "a refusal changed the book".into());
         }
-        if let Call::Apply(application) = call {
-            self.hold_covering(application)?;
+        match call {
+            Call::Apply(application) => self.count(table, application)?,
+            Call::Cover(cover) => self.count_cover(table, cover, before, after)?,
+            _ => self.accounts.feed(table, call, accepted)?,
         }
-        self.accounts.feed(table, call, accepted)?;
         hold(after.is_sound(), || {
             "the book is not sound after an accepted posting".into()
         })?;
         self.hold_touched(call, after)
     }
 
-    /// Every lot and every shortage is what the accounts give.
+    /// What an accepted call answers, asked before the call is judged: a cover's
+    /// Mg are the smaller of the two totals, and those of the applications that
+    /// the accounts give it.
+    pub fn hold_results(
+        &self,
+        call: &Call,
+        results: &Results,
+        before: &Book,
+    ) -> Result<(), Violation> {
+        let Call::Cover(cover) = call else {
+            return Ok(());
+        };
+        let (cell, _) = place(cover.maker, cover.set, FIRST_YEAR)?;
+        let open_year = before.open_year;
+        let live = total(&before.lots[cell], |vintage| is_live(open_year, vintage));
+        let open = total(&before.shortages[cell], |year| is_open(open_year, year));
+        let made = self.accounts.made_by(cover)?;
+        let made: u128 = made.iter().map(|c| u128::from(c.mg)).sum();
+        let answered = match results {
+            Results::Moved(mg) => Some(u128::from(mg.0)),
+            _ => None,
+        };
+        hold(answered == Some(live.min(open)), || {
+            format!("a cover of {live} live and {open} open Mg answers {results:?}")
+        })?;
+        hold(answered == Some(made), || {
+            format!("a cover answers {results:?}, the accounts give {made}")
+        })
+    }
+
+    /// Every lot and every shortage is what the accounts give, and the open year.
     pub fn hold_all(&self, book: &Book) -> Result<(), Violation> {
+        self.hold_open_year(book)?;
         (FIRST_YEAR..=LAST_YEAR).try_for_each(|year| self.hold_year(book, year))
+    }
+
+    /// An accepted application.
+    fn count(&mut self, table: &Table, application: &Application) -> Result<(), Violation> {
+        self.hold_covering(application)?;
+        self.accounts
+            .feed(table, &Call::Apply(*application), true)?;
+        Ok(())
+    }
+
+    /// A cover is the applications that the accounts give it: put one by one to
+    /// the book, each is accepted and holds as such, and they leave the book and
+    /// the accounts that the cover leaves.
+    fn count_cover(
+        &mut self,
+        table: &Table,
+        cover: &Cover,
+        before: &Book,
+        after: &Book,
+    ) -> Result<(), Violation> {
+        let (mut one_by_one, mut book) = (self.clone(), before.clone());
+        for application in self.accounts.made_by(cover)? {
+            let answer = post(&mut book, table, &Call::Apply(application));
+            hold(answer.is_ok(), || {
+                format!("a cover's {application:?} by itself gets {answer:?}")
+            })?;
+            one_by_one.count(table, &application)?;
+        }
+        hold(book == *after, || {
+            "a cover leaves another book than its applications".into()
+        })?;
+        self.accounts.feed(table, &Call::Cover(*cover), true)?;
+        hold(self.accounts == one_by_one.accounts, || {
+            "a cover counts otherwise than its applications".into()
+        })
     }
 
     fn hold_covering(&self, c: &Application) -> Result<(), Violation> {
@@ -73,7 +140,10 @@ impl Audit {
     fn hold_touched(&self, call: &Call, book: &Book) -> Result<(), Violation> {
         match call {
             Call::File(c) | Call::Amend(c) => self.hold_place(book, c.maker, c.set, c.year),
-            Call::Close { year } => self.hold_year(book, *year),
+            Call::Close { year } => {
+                self.hold_open_year(book)?;
+                self.hold_year(book, *year)
+            }
             Call::Trade(c) => {
                 self.hold_place(book, c.from, c.set, c.vintage)?;
                 self.hold_place(book, c.to, c.set, c.vintage)
@@ -83,7 +153,16 @@ impl Audit {
                 self.hold_place(book, c.maker, c.set, c.year)
             }
             Call::Retire(c) => self.hold_place(book, c.maker, c.set, c.vintage),
+            Call::Cover(c) => (FIRST_YEAR..=LAST_YEAR)
+                .try_for_each(|year| self.hold_place(book, c.maker, c.set, year)),
         }
+    }
+
+    fn hold_open_year(&self, book: &Book) -> Result<(), Violation> {
+        let (open, own) = (book.open_year, self.accounts.open_year());
+        hold(open == own, || {
+            format!("the open year is {open}, the accounts give {own}")
+        })
     }
 
     fn hold_year(&self, book: &Book, year: u64) -> Result<(), Violation> {
@@ -112,6 +191,15 @@ impl Audit {
             )
         })
     }
+}
+
+/// The Mg of the years that are wanted.
+fn total(figures: &[Mg; YEARS], wanted: impl Fn(u64) -> bool) -> u128 {
+    let years = (FIRST_YEAR..).zip(figures);
+    years
+        .filter(|&(year, _)| wanted(year))
+        .map(|(_, mg)| u128::from(mg.0))
+        .sum()
 }
 
 fn hold(claim: bool, otherwise: impl FnOnce() -> String) -> Result<(), Violation> {

@@ -2,8 +2,8 @@
 //! from the words of document 01 and the cards so that another one can be held
 //! against it.
 //!
-//! `standards`, `figuring`, `book` and `postings` are the rules; `text` and
-//! `listing` the terminal, `std_text` its tables, `written` a whole book as text;
+//! `standards`, `figuring`, `book`, `covering` and `postings` are the rules; `text`
+//! and `listing` the terminal, `std_text` its tables, `written` a whole book as text;
 //! `accounts` and `audit` the claims about a whole list of calls; `session` runs
 //! a terminal session; `generate` writes sessions, tables and texts for testing;
 //! `asked` and `room` serve the commands that run another program.
@@ -14,6 +14,7 @@ pub mod accounts;
 pub mod asked;
 pub mod audit;
 pub mod book;
+pub mod covering;
 pub mod figuring;
 pub mod generate;
 pub mod listing;

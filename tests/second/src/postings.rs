@@ -1,6 +1,7 @@
-//! The six postings, each with its refusals in the paper's checking order.
+//! The seven postings, each with its refusals in the paper's checking order.
 
 use crate::book::{cell, Book, CELLS, FAMILIES, MAKERS, SETS};
+use crate::covering::oldest_first;
 use crate::figuring::{is_live, is_open, part, rounded, year_index, Figures, Mg, Part, ALL_CLOSED};
 use crate::standards::Table;
 
@@ -16,6 +17,7 @@ pub enum Call {
     Trade(Trade),
     Apply(Application),
     Retire(Retirement),
+    Cover(Cover),
 }
 
 #[derive(Clone, Copy, Debug, PartialEq, Eq)]
@@ -57,6 +59,13 @@ pub struct Retirement {
     pub mg: u64,
 }
 
+/// Pays the cell's open shortages from its live lots, oldest first.
+#[derive(Clone, Copy, Debug, PartialEq, Eq)]
+pub struct Cover {
+    pub maker: u64,
+    pub set: u64,
+}
+
 /// The results of an accepted call.
 #[derive(Clone, Copy, Debug, PartialEq, Eq)]
 pub enum Results {
@@ -66,6 +75,8 @@ pub enum Results {
     Closed { short: u64 },
     /// What is left in the paying lot.
     Left(Mg),
+    /// What a cover moved.
+    Moved(Mg),
 }
 
 /// The refusal list; each value is the paper's number. `Table` is checked
@@ -118,6 +129,7 @@ pub fn post(book: &mut Book, table: &Table, call: &Call) -> Answer {
         Call::Trade(trade) => post_trade(book, trade),
         Call::Apply(application) => apply(book, application),
         Call::Retire(retirement) => retire(book, retirement),
+        Call::Cover(named) => cover(book, named),
     }
 }
 
@@ -259,6 +271,22 @@ fn retire(book: &mut Book, retirement: &Retirement) -> Answer {
 
     book.lots[cell][vintage] = left;
     Ok(Results::Left(left))
+}
+
+/// Nothing to move is no refusal. Of its applications none is refused: each
+/// names a live lot and an open shortage, and no more than both have.
+fn cover(book: &mut Book, named: &Cover) -> Answer {
+    let maker = known_maker(named.maker)?;
+    let set = known_set(named.set)?;
+    let cell = cell(maker, set);
+    let (lots, shortages) = (book.lots[cell], book.shortages[cell]);
+
+    let mut moved = Mg(0);
+    for application in oldest_first(named, book.open_year, lots, shortages) {
+        apply(book, &application)?;
+        moved.0 += application.mg;
+    }
+    Ok(Results::Moved(moved))
 }
 
 fn require(holds: bool, refusal: Refusal) -> Result<(), Refusal> {

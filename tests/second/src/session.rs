@@ -148,6 +148,9 @@ impl Watch {
     fn post(&mut self, book: &mut Book, table: &Table, call: &Call) -> Result<Answer, Violation> {
         self.before.clone_from(book);
         let answer = post(book, table, call);
+        if let Ok(results) = &answer {
+            self.audit.hold_results(call, results, &self.before)?;
+        }
         self.audit
             .judge(table, call, answer.is_ok(), &self.before, book)?;
         Ok(answer)

@@ -1,7 +1,7 @@
 //! The terminal text: lines out of bytes, calls out of lines, answers as text.
 
 use crate::figuring::Figures;
-use crate::postings::{Answer, Application, Call, Filing, Results, Retirement, Trade};
+use crate::postings::{Answer, Application, Call, Cover, Filing, Results, Retirement, Trade};
 use crate::standards::{Row, COLUMNS};
 use std::fmt;
 
@@ -51,6 +51,8 @@ impl Reader<'_> {
             Call::Apply(self.application()?)
         } else if self.take(b"(retire").is_some() {
             Call::Retire(self.retirement()?)
+        } else if self.take(b"(cover").is_some() {
+            Call::Cover(self.cover()?)
         } else {
             return None;
         };
@@ -119,6 +121,13 @@ impl Reader<'_> {
             set: self.field(b"set")?,
             vintage: self.field(b"vintage")?,
             mg: self.field(b"mg")?,
+        })
+    }
+
+    fn cover(&mut self) -> Option<Cover> {
+        Some(Cover {
+            maker: self.field(b"maker")?,
+            set: self.field(b"set")?,
         })
     }
 
@@ -199,7 +208,7 @@ impl fmt::Display for Answered {
         match self.0 {
             Ok(Results::Filed { part, families }) => write!(f, "(ok {part} {families})"),
             Ok(Results::Closed { short }) => write!(f, "(ok {short})"),
-            Ok(Results::Left(mg)) => write!(f, "(ok {mg})"),
+            Ok(Results::Left(mg) | Results::Moved(mg)) => write!(f, "(ok {mg})"),
             Err(refusal) => write!(f, "(no {})", refusal.number()),
         }
     }
@@ -241,6 +250,7 @@ impl Call {
                     ("mg", c.mg),
                 ],
             ),
+            Call::Cover(c) => ("cover", vec![("maker", c.maker), ("set", c.set)]),
         }
     }
 }

@@ -2,6 +2,7 @@
 
 mod common;
 
+use common::times::Times;
 use common::*;
 use second::book::{cell, Book, CELLS};
 use second::figuring::Part;
@@ -30,7 +31,7 @@ fn filed_part(book: &Book, c: &Filing) -> Option<Part> {
 /// How often each thing was met.
 #[derive(Default)]
 struct Met {
-    times: BTreeMap<String, u32>,
+    times: Times,
     /// The families filed last year.
     last_year: BTreeSet<Name>,
     this_year: BTreeSet<Name>,
@@ -49,21 +50,6 @@ impl Met {
         met
     }
 
-    fn times(&self, what: &str) -> u32 {
-        self.times.get(what).copied().unwrap_or(0)
-    }
-
-    fn hold(&self, least: u32, whats: &[&str]) {
-        for what in whats {
-            let times = self.times(what);
-            assert!(times >= least, "{what}: {times} times");
-        }
-    }
-
-    fn meet(&mut self, what: impl Into<String>, is_so: bool) {
-        *self.times.entry(what.into()).or_default() += u32::from(is_so);
-    }
-
     fn see(&mut self, book: &Book, call: &Call, answer: Answer) {
         match (call, answer) {
             (Call::File(c), Ok(_)) => {
@@ -72,12 +58,12 @@ impl Met {
             }
             (Call::File(c), Err(refusal)) => {
                 let again = refusal.number() == 9 && self.amended.contains_key(&name(c));
-                self.meet("filed again once amended", again);
+                self.times.meet("filed again once amended", again);
             }
             (Call::Amend(c), Ok(Results::Filed { part, .. })) => self.accept(book, c, part),
             (Call::Amend(c), Err(refusal)) => self.refuse(book, c, refusal.number()),
             (Call::Close { .. }, Ok(_)) => {
-                self.meet("just before a close", self.just_amended);
+                self.times.meet("just before a close", self.just_amended);
                 self.last_year = std::mem::take(&mut self.this_year);
                 self.amended.clear();
                 self.just_amended = false;
@@ -89,40 +75,46 @@ impl Met {
     fn accept(&mut self, book: &Book, c: &Filing, part: Part) {
         let before = filed_part(book, c).expect("a family that is filed");
         self.just_amended = part != before;
-        self.meet("accepted", true);
-        self.meet("part to 0", part.0 == 0 && before.0 != 0);
-        self.meet("part from 0", part.0 != 0 && before.0 == 0);
-        self.meet("part to below 0", part.0 < 0 && before.0 > 0);
-        self.meet("part to above 0", part.0 > 0 && before.0 < 0);
-        self.meet("part the same", part == before);
-        self.meet("part larger", part > before);
-        self.meet("part smaller", part < before);
-        self.meet(format!("edition {}", c.edition), true);
+        self.times.meet("accepted", true);
+        self.times.meet("part to 0", part.0 == 0 && before.0 != 0);
+        self.times.meet("part from 0", part.0 != 0 && before.0 == 0);
+        self.times
+            .meet("part to below 0", part.0 < 0 && before.0 > 0);
+        self.times
+            .meet("part to above 0", part.0 > 0 && before.0 < 0);
+        self.times.meet("part the same", part == before);
+        self.times.meet("part larger", part > before);
+        self.times.meet("part smaller", part < before);
+        self.times.meet(format!("edition {}", c.edition), true);
         let times = self.amended.entry(name(c)).or_default();
         *times += 1;
         let times = *times;
-        self.meet("second time", times == 2);
-        self.meet("fifth time", times == 5);
+        self.times.meet("second time", times == 2);
+        self.times.meet("fifth time", times == 5);
     }
 
     fn refuse(&mut self, book: &Book, c: &Filing, number: u8) {
         let filed = filed_part(book, c).is_some();
-        self.meet(format!("{number}"), true);
-        self.meet(format!("{number}, not filed"), !filed);
-        self.meet(format!("{number}, filed"), filed);
+        self.times.meet(format!("{number}"), true);
+        self.times.meet(format!("{number}, not filed"), !filed);
+        self.times.meet(format!("{number}, filed"), filed);
         let (family, figures) = (c.family > 63, !c.figures.within_limits());
-        self.meet(format!("{number}, number above 63"), family);
-        self.meet(format!("{number}, outside limits"), figures);
+        self.times
+            .meet(format!("{number}, number above 63"), family);
+        self.times
+            .meet(format!("{number}, outside limits"), figures);
         if number == 18 {
             let elsewhere = (0..CELLS).any(|cell| book.marks[cell] >> c.family & 1 == 1);
             let own = book.marks[cell(c.maker as usize, c.set as usize)] != 0;
-            self.meet("18, filed last year", self.last_year.contains(&name(c)));
-            self.meet("18, number of another cell", elsewhere);
-            self.meet("18, cell has others", own);
+            self.times
+                .meet("18, filed last year", self.last_year.contains(&name(c)));
+            self.times.meet("18, number of another cell", elsewhere);
+            self.times.meet("18, cell has others", own);
         }
         let late = number == 5 && self.last_year.contains(&name(c)) && c.year + 1 == book.open_year;
-        self.meet("5, filed last year", late);
-        self.meet("5, all closed", number == 5 && book.open_year == 2038);
+        self.times.meet("5, filed last year", late);
+        self.times
+            .meet("5, all closed", number == 5 && book.open_year == 2038);
     }
 }
 
@@ -135,7 +127,7 @@ fn sessions_amend_families_in_every_way() {
         (Kind::Bench, 0..1, 100),
     ] {
         let met = Met::of(kind, seeds);
-        met.hold(25 * least, &["accepted"]);
+        met.times.hold(25 * least, &["accepted"]);
         let ways = [
             "part to 0",
             "part from 0",
@@ -150,10 +142,10 @@ fn sessions_amend_families_in_every_way() {
             "second time",
             "filed again once amended",
         ];
-        met.hold(least, &ways);
+        met.times.hold(least, &ways);
         let closes = if kind == Kind::Bench { 5 } else { 40 };
-        met.hold(closes, &["just before a close"]);
-        met.hold(10, &["fifth time"]);
+        met.times.hold(closes, &["just before a close"]);
+        met.times.hold(10, &["fifth time"]);
     }
 }
 
@@ -166,9 +158,9 @@ fn sessions_amend_what_isnt_filed() {
         "18, cell has others",
     ];
     for kind in [Kind::Years, Kind::Hostile, Kind::Mixed] {
-        Met::of(kind, 0..8).hold(30, &by_neglect);
+        Met::of(kind, 0..8).times.hold(30, &by_neglect);
     }
-    Met::of(Kind::Years, 0..8).hold(5, &["5, all closed"]);
+    Met::of(Kind::Years, 0..8).times.hold(5, &["5, all closed"]);
 }
 
 /// Alone, and with another refusal that comes later and must not answer.
@@ -176,19 +168,21 @@ fn sessions_amend_what_isnt_filed() {
 fn sessions_meet_every_refusal_of_an_amendment() {
     for (kind, least) in [(Kind::Hostile, 20), (Kind::Mixed, 6)] {
         let met = Met::of(kind, 0..8);
-        met.hold(
+        met.times.hold(
             3 * least,
             &["5, filed", "6, filed", "17, filed", "8, filed"],
         );
-        met.hold(3 * least, &["3", "4", "5, filed last year"]);
+        met.times.hold(3 * least, &["3", "4", "5, filed last year"]);
         for number in ["5", "6", "17", "8"] {
-            met.hold(least, &[&format!("{number}, not filed")]);
+            met.times.hold(least, &[&format!("{number}, not filed")]);
         }
         for number in ["3", "4", "5", "6", "17", "7"] {
-            met.hold(least / 2, &[&format!("{number}, outside limits")]);
+            met.times
+                .hold(least / 2, &[&format!("{number}, outside limits")]);
         }
         for number in ["4", "5", "6", "17", "7"] {
-            met.hold(least / 2, &[&format!("{number}, number above 63")]);
+            met.times
+                .hold(least / 2, &[&format!("{number}, number above 63")]);
         }
     }
 }

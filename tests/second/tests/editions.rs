@@ -273,7 +273,8 @@ fn a_balance_under_another_standard_is_noticed() {
         for (told, booked) in (0..3).flat_map(|told| (0..3).map(move |booked| (told, booked))) {
             let named = Call::File(family(told, (set, usage, fcl)));
             let other = Call::File(family(booked, (set, usage, fcl)));
-            let (mut audit, mut book) = (Audit::default(), book(2025, &[], &[]));
+            let mut book = book(2025, &[], &[]);
+            let mut audit = Audit::opened(&book);
             let before = book.clone();
             post(&mut book, &other).expect("accepted");
             audit

@@ -23,6 +23,11 @@ fn the_sample_session() {
 }
 
 #[test]
+fn a_cover() {
+    assert_eq!(output(&example("cover.txt")), example("cover.out"));
+}
+
+#[test]
 fn the_built_in_standards() {
     assert_eq!(example("std.txt"), BUILT_IN.to_string());
     assert_eq!(table("std.txt"), *BUILT_IN);

@@ -207,6 +207,8 @@ fn an_unsound_book_refuses_every_call_first() {
         "(trade (from 8) (to 8) (set 4) (vintage 1) (mg 0))",
         "(apply (maker 8) (set 4) (vintage 1) (year 1) (mg 0))",
         "(retire (maker 8) (set 4) (vintage 1) (mg 0))",
+        "(cover (maker 8) (set 4))",
+        "(cover (maker 0) (set 0))",
     ];
     let mut unsound = Book::fresh();
     unsound.lots[31][23] = Mg(u64::MAX);

@@ -56,7 +56,7 @@ impl Families {
                 self.filed.push(*amended);
             }
             Call::Close { .. } => self.before = std::mem::take(&mut self.filed),
-            Call::Trade(_) | Call::Apply(_) | Call::Retire(_) => {}
+            Call::Trade(_) | Call::Apply(_) | Call::Retire(_) | Call::Cover(_) => {}
         }
     }
 }

@@ -98,8 +98,8 @@ const EDGES: &[&str] = &[
 
 const NAMES: &[&str] = &[
     "maker", "set", "year", "use", "edition", "family", "fcl", "cf", "volume", "life", "from",
-    "to", "vintage", "mg", "file", "amend", "close", "trade", "apply", "retire", "fresh", "list",
-    "MAKER", "Maker", "make", "makers", "editions", "", "0", "ok", "no",
+    "to", "vintage", "mg", "file", "amend", "close", "trade", "apply", "retire", "cover", "fresh",
+    "list", "MAKER", "Maker", "make", "makers", "editions", "", "0", "ok", "no",
 ];
 
 /// A form as text that can be bent.

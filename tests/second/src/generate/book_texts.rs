@@ -2,7 +2,7 @@
 //! near ones and others.
 
 use super::book_bends::BENDS;
-use super::books::{full_book, sparse_book, Make};
+use super::books::{full_book, payable_book, sparse_book, Make};
 use super::lines::{huge, Text};
 use super::rng::Rng;
 use super::std_texts::std_text;
@@ -44,6 +44,7 @@ pub fn some_book(rng: &mut Rng) -> Book {
             open_year: ALL_CLOSED,
             ..sparse_book(rng)
         },
+        11 => payable_book(rng),
         _ => sparse_book(rng),
     }
 }

@@ -26,11 +26,15 @@ impl Script {
     /// year, then an end that may lack its line feed.
     fn write_to_the_end(&mut self, lines: usize, mut write: impl FnMut(&mut Self)) {
         let year = (lines / (CLOSINGS + TELLING_YEARS.count())).max(2);
+        self.draw_coverers(year);
         let mut closing = year;
         while self.lines < lines {
             if self.lines >= closing {
                 if self.rng.once_in(2) {
                     self.amend_before_the_close();
+                }
+                if self.rng.once_in(2) {
+                    self.cover_before_the_close();
                 }
                 self.close();
                 let spans = if self.is_telling_year() { 2 } else { 1 };
@@ -64,6 +68,9 @@ impl Script {
         if self.rng.once_in(5) {
             return self.amendment_line();
         }
+        if self.rng.once_in(8) {
+            return self.cover_line();
+        }
         match self.rng.below(12) {
             0 | 1 => self.edges(),
             2 => self.long_numbers(),
@@ -78,10 +85,11 @@ impl Script {
 
     /// A call that could be accepted or nearly.
     pub(super) fn some_call(&mut self) -> Call {
-        let plausible = match self.rng.below(4) {
-            0 => self.plausible_filing(),
-            1 => self.plausible_amendment(),
-            2 => self.plausible_posting(),
+        let plausible = match self.rng.below(9) {
+            0 | 1 => self.plausible_filing(),
+            2 | 3 => self.plausible_amendment(),
+            4 | 5 => self.plausible_posting(),
+            6 => self.plausible_cover(),
             _ => None,
         };
         plausible.unwrap_or_else(|| self.refusable_call())

@@ -7,6 +7,7 @@ mod bent;
 mod book_bends;
 pub mod book_texts;
 pub mod books;
+mod covers;
 mod editions;
 mod full;
 mod halves;
@@ -127,6 +128,10 @@ struct Script {
     lines: usize,
     /// Cells that rarely cover their shortages.
     careless: [bool; CELLS],
+    /// Cells that leave their shortages to covers, and in how many pieces they
+    /// buy what these move.
+    coverers: [bool; CELLS],
+    pieces: u64,
     /// How far a cell's levels lie from the standard this year, g/hp-hr.
     leaning: [i64; CELLS],
     families: Families,
@@ -145,16 +150,20 @@ impl Script {
             text: Vec::new(),
             lines: 0,
             careless,
+            coverers: [false; CELLS],
+            pieces: 1,
             leaning: [0; CELLS],
         };
         script.lean();
         script
     }
 
-    /// Draws every cell's leaning for a new year; about a fourth close short.
+    /// Draws every cell's leaning for a new year; about a fourth close short, and
+    /// of those that leave it to covers most.
     fn lean(&mut self) {
-        for leaning in &mut self.leaning {
-            *leaning = self.rng.between(0, 40) as i64 - 30;
+        for (leaning, &coverer) in self.leaning.iter_mut().zip(&self.coverers) {
+            let shift = if coverer { 10 } else { 30 };
+            *leaning = self.rng.between(0, 40) as i64 - shift;
         }
     }
 

@@ -88,7 +88,7 @@ impl Script {
     /// A call whose arguments lie within a step of being accepted, so that
     /// several refusals concern it and their order shows.
     pub(super) fn refusable_call(&mut self) -> Call {
-        match self.rng.below(58) {
+        match self.rng.below(62) {
             0 => Call::Close {
                 year: self.near_open_year(),
             },
@@ -96,6 +96,7 @@ impl Script {
             13..=20 => Call::Amend(self.near_amendment()),
             21..=32 => Call::Trade(self.near_trade()),
             33..=46 => Call::Apply(self.near_application()),
+            47..=50 => Call::Cover(self.near_cover()),
             _ => Call::Retire(self.near_retirement()),
         }
     }
@@ -164,7 +165,7 @@ impl Script {
     }
 
     /// A cell that has a lot or a shortage, if one is found soon.
-    fn telling_cell(&mut self) -> usize {
+    pub(super) fn telling_cell(&mut self) -> usize {
         let found = (0..10).find_map(|_| {
             let cell = self.rng.index(CELLS);
             let mut figures = self.book.lots[cell]
@@ -237,7 +238,7 @@ impl Script {
         }
     }
 
-    fn seldom_other(&mut self, usual: u64, limit: u64) -> u64 {
+    pub(super) fn seldom_other(&mut self, usual: u64, limit: u64) -> u64 {
         match self.rng.below(16) {
             0 => self.rng.below(limit),
             1 => limit,

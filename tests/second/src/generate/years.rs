@@ -13,6 +13,7 @@ const HALVES: usize = 3;
 
 impl Script {
     pub(super) fn years(&mut self, lines: usize) {
+        self.draw_coverers(lines / SPANS);
         for span in 1..=SPANS {
             let end = lines * span / SPANS;
             while self.lines + 2 * HALVES + 1 < end {
@@ -25,6 +26,9 @@ impl Script {
             }
             if self.lines + 2 <= end && self.rng.once_in(2) {
                 self.amend_before_the_close();
+            }
+            if self.lines + 2 <= end && self.rng.once_in(2) {
+                self.cover_before_the_close();
             }
             if span < SPANS && self.lines < end {
                 self.close();
@@ -40,11 +44,12 @@ impl Script {
         if self.standard_is_due(12) {
             return self.standard_line();
         }
-        let call = match self.rng.below(16) {
-            0 | 1 => self
+        let call = match self.rng.below(64) {
+            0..=7 => self
                 .plausible_amendment()
                 .or_else(|| self.plausible_filing()),
-            2..=8 => self.plausible_filing().or_else(|| self.plausible_posting()),
+            8..=12 => self.plausible_cover().or_else(|| self.plausible_posting()),
+            13..=39 => self.plausible_filing().or_else(|| self.plausible_posting()),
             _ => self.plausible_posting().or_else(|| self.plausible_filing()),
         };
         match call {
@@ -110,7 +115,7 @@ impl Script {
                 [] if !self.is_short(cell) => self.use_lot(cell),
                 years if !years.is_empty() && (!self.careless[cell] || self.rng.once_in(30)) => {
                     let year = *self.rng.pick(years)?;
-                    self.cover(cell, year)
+                    self.pay(cell, year)
                 }
                 // A short maker tries to sell: refusal 13.
                 _ if self.rng.once_in(12) => self.use_lot(cell),
@@ -119,13 +124,22 @@ impl Script {
         })
     }
 
-    /// Applies a lot of the cell's own to the shortage, or buys one.
-    fn cover(&mut self, short_cell: usize, year: u64) -> Option<Call> {
+    /// Applies a lot of the cell's own to the shortage, or buys one. A cell that
+    /// leaves its shortages to covers seldom applies, and pays in pieces.
+    pub(super) fn pay(&mut self, short_cell: usize, year: u64) -> Option<Call> {
         let (maker, set) = names(short_cell);
         let shortage = self.book.shortages[short_cell][index(year)];
-        if let Some(vintage) = self.some_live_lot(short_cell) {
+        let coverer = self.coverers[short_cell];
+        let pieces = if coverer { self.pieces } else { 1 };
+        let piece = |lot: Mg| Mg(lot.min(shortage).0.div_ceil(pieces));
+        let own = if coverer && !self.rng.once_in(12) {
+            None
+        } else {
+            self.some_live_lot(short_cell)
+        };
+        if let Some(vintage) = own {
             let lot = self.book.lots[short_cell][index(vintage)];
-            let mg = self.amount(lot.min(shortage));
+            let mg = self.amount(piece(lot));
             return Some(Call::Apply(Application {
                 maker,
                 set,
@@ -143,7 +157,7 @@ impl Script {
             to: maker,
             set,
             vintage,
-            mg: self.amount(lot.min(shortage)),
+            mg: self.amount(piece(lot)),
         }))
     }
 
@@ -195,12 +209,16 @@ impl Script {
     }
 
     pub(super) fn some_live_lot(&mut self, cell: usize) -> Option<u64> {
-        let open_year = self.book.open_year;
-        let live = years_above_zero(&self.book.lots[cell], |v| is_live(open_year, v));
+        let live = self.live_lots(cell);
         self.rng.pick(&live).copied()
     }
 
-    fn is_short(&self, cell: usize) -> bool {
+    pub(super) fn live_lots(&self, cell: usize) -> Vec<u64> {
+        let open_year = self.book.open_year;
+        years_above_zero(&self.book.lots[cell], |v| is_live(open_year, v))
+    }
+
+    pub(super) fn is_short(&self, cell: usize) -> bool {
         self.book.shortages[cell].iter().any(|&mg| mg > Mg(0))
     }
 

@@ -3,13 +3,16 @@
 #![allow(dead_code)]
 
 pub mod any;
+pub mod payable;
 pub mod program;
+pub mod rivals;
+pub mod times;
 pub mod written;
 
 use second::book::{cell, Book};
 use second::figuring::{Figures, Mg, Part, PARTS_IN_A_MG};
 use second::generate::{session, Kind};
-use second::postings::{self, Answer, Call, Filing, Refusal, Results};
+use second::postings::{self, Answer, Call, Cover, Filing, Refusal, Results};
 use second::session::answers;
 use second::standards::Table;
 use second::text::parse;
@@ -142,6 +145,10 @@ pub fn left(mg: u64) -> Answer {
     Ok(Results::Left(Mg(mg)))
 }
 
+pub fn moved(mg: u64) -> Answer {
+    Ok(Results::Moved(Mg(mg)))
+}
+
 pub fn closed(short: u64) -> Answer {
     Ok(Results::Closed { short })
 }
@@ -219,4 +226,8 @@ pub fn two_families() -> Book {
 
 pub fn amend(book: &mut Book, amended: Filing) -> Answer {
     post(book, &Call::Amend(amended))
+}
+
+pub fn cover(book: &mut Book, maker: u64, set: u64) -> Answer {
+    post(book, &Call::Cover(Cover { maker, set }))
 }

@@ -1,6 +1,6 @@
 //! Arguments of calls aimed at a book and a table.
 
-use crate::calls::{AMEND, APPLY, CLOSE, FILE, TRADE};
+use crate::calls::{AMEND, APPLY, CLOSE, COVER, FILE, TRADE};
 use second::book::{cell, Book, CELLS, FAMILIES, MAKERS, SETS};
 use second::figuring::{
     is_live, is_open, Mg, FIRST_YEAR, MAX_CF, MAX_FCL, MAX_LIFE, MAX_VOLUME, YEARS,
@@ -20,6 +20,7 @@ pub fn aimed(book: &Book, table: &Table, rng: &mut Rng, kind: usize) -> Vec<u64>
         FILE | AMEND => aimed_filing(book, table, rng, kind == AMEND),
         CLOSE => vec![book.open_year],
         APPLY => aimed_application(book, rng),
+        COVER => aimed_cover(book, rng),
         _ => aimed_payment(book, rng, kind),
     }
 }
@@ -106,10 +107,7 @@ fn aimed_payment(book: &Book, rng: &mut Rng, kind: usize) -> Vec<u64> {
 }
 
 fn aimed_application(book: &Book, rng: &mut Rng) -> Vec<u64> {
-    let cell = from_anywhere(rng, CELLS, |cell| {
-        (0..YEARS).any(|index| live_lot(book, cell, index) > 0)
-            && (0..YEARS).any(|index| open_shortage(book, cell, index) > 0)
-    });
+    let cell = payable_cell(book, rng);
     let vintage = from_anywhere(rng, YEARS, |index| live_lot(book, cell, index) > 0);
     let year = if rng.once_in(10) {
         rng.index(YEARS)
@@ -124,6 +122,23 @@ fn aimed_application(book: &Book, rng: &mut Rng) -> Vec<u64> {
         FIRST_YEAR + year as u64,
         part_of(rng, most),
     ]
+}
+
+/// Once in ten any cell.
+fn aimed_cover(book: &Book, rng: &mut Rng) -> Vec<u64> {
+    let cell = match rng.below(10) {
+        0 => rng.index(CELLS),
+        _ => payable_cell(book, rng),
+    };
+    vec![(cell / SETS) as u64, (cell % SETS) as u64]
+}
+
+/// A cell with a live lot and an open shortage.
+fn payable_cell(book: &Book, rng: &mut Rng) -> usize {
+    from_anywhere(rng, CELLS, |cell| {
+        (0..YEARS).any(|index| live_lot(book, cell, index) > 0)
+            && (0..YEARS).any(|index| open_shortage(book, cell, index) > 0)
+    })
 }
 
 /// The first place that fits from a random one on, or that one.

@@ -7,7 +7,7 @@ use second::figuring::{
     MAX_VOLUME, YEARS,
 };
 use second::generate::{books::any, rng::Rng, TELLING_YEARS};
-use second::postings::{Application, Call, Filing, Retirement, Trade};
+use second::postings::{Application, Call, Cover, Filing, Retirement, Trade};
 use second::standards::Table;
 
 /// A call's kind and its arguments.
@@ -19,9 +19,10 @@ pub const CLOSE: usize = 1;
 pub const TRADE: usize = 2;
 pub const APPLY: usize = 3;
 pub const AMEND: usize = 5;
-pub const KINDS: usize = 6;
 /// The kind of a record that is no call but has a text.
 pub const TEXT: usize = 6;
+pub const COVER: usize = 7;
+pub const KINDS: usize = 8;
 
 pub fn kind_of(words: &[u64; CALL_WORDS]) -> usize {
     words[0] as usize
@@ -47,6 +48,7 @@ pub fn call_of(words: &[u64; CALL_WORDS]) -> Call {
             year: d,
             mg: e,
         }),
+        COVER => Call::Cover(Cover { maker: a, set: b }),
         _ => Call::Retire(Retirement {
             maker: a,
             set: b,
@@ -113,13 +115,14 @@ const ROLES: [&[Role]; KINDS] = [
     &[Maker, Set, Vintage, ShortYear, Amount],
     &[Maker, Set, Vintage, Amount],
     FILING,
+    &[],
+    &[Maker, Set],
 ];
 
 /// A call that the book would accept under the table where it can, or one with
 /// some of its arguments at or past an edge; whatever in the arguments that it
 /// lacks.
-pub fn call_on(book: &Book, table: &Table, rng: &mut Rng) -> [u64; CALL_WORDS] {
-    let kind = kind_on(book, rng);
+pub fn call_on(book: &Book, table: &Table, rng: &mut Rng, kind: usize) -> [u64; CALL_WORDS] {
     let mut words = [0; CALL_WORDS];
     words.fill_with(|| any(rng));
     words[0] = kind as u64;
@@ -144,12 +147,16 @@ pub fn call_on(book: &Book, table: &Table, rng: &mut Rng) -> [u64; CALL_WORDS] {
     words
 }
 
-/// Any; in the telling years half of the time a filing or an amendment.
-fn kind_on(book: &Book, rng: &mut Rng) -> usize {
+/// Any of a call; in the telling years half of the time a filing or an
+/// amendment.
+pub fn kind_on(book: &Book, rng: &mut Rng) -> usize {
     if TELLING_YEARS.contains(&book.open_year) && rng.once_in(2) {
         [FILE, AMEND][rng.index(2)]
     } else {
-        rng.index(ROLES.len())
+        match rng.index(KINDS - 1) {
+            TEXT => COVER,
+            kind => kind,
+        }
     }
 }
 
@@ -200,7 +207,7 @@ fn amount_at_edge(book: &Book, rng: &mut Rng, words: &[u64; CALL_WORDS]) -> u64 
         Call::Apply(p) if rng.once_in(2) => figure(&book.shortages, p.maker, p.set, p.year),
         Call::Apply(p) => figure(&book.lots, p.maker, p.set, p.vintage),
         Call::Retire(p) => figure(&book.lots, p.maker, p.set, p.vintage),
-        Call::File(_) | Call::Amend(_) | Call::Close { .. } => None,
+        Call::File(_) | Call::Amend(_) | Call::Close { .. } | Call::Cover(_) => None,
     };
     let mg = lot.unwrap_or(1);
     match rng.below(4) {

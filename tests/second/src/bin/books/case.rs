@@ -1,6 +1,6 @@
 //! One book, one call and one table as a record, and the answer to it.
 
-use crate::calls::{call_of, call_on, CALL_WORDS};
+use crate::calls::{call_of, call_on, kind_on, CALL_WORDS, COVER};
 use crate::words::{hold_answer, record};
 use second::book::Book;
 use second::generate::{books::Make, rng::Rng, tables};
@@ -24,7 +24,11 @@ impl Case {
         let book = make.book(rng);
         let table_make = tables::Made::drawn(rng);
         let table = table_make.table(rng);
-        let call = call_on(&book, &table, rng);
+        let kind = match make {
+            Make::Payable if rng.once_in(2) => COVER,
+            _ => kind_on(&book, rng),
+        };
+        let call = call_on(&book, &table, rng, kind);
         Case {
             make,
             table_make,
@@ -79,6 +83,6 @@ fn values(answer: &Answer) -> [u64; 3] {
         Err(refusal) => [u64::from(refusal.number()), 0, 0],
         Ok(Results::Filed { part, families }) => [0, part.0 as u64, families],
         Ok(Results::Closed { short }) => [0, short, 0],
-        Ok(Results::Left(mg)) => [0, mg.0, 0],
+        Ok(Results::Left(mg) | Results::Moved(mg)) => [0, mg.0, 0],
     }
 }

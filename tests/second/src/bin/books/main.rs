@@ -7,8 +7,8 @@
 //! ten arguments, then 144 words of a table, row by row, whatever the call: in
 //! all 30,176 bytes. Its answer is the book's soundness, the refusal or 0, two
 //! values, and the book after it. A word is 64 bits, low byte first. The kinds
-//! are 0 file, 1 close, 2 trade, 3 apply, 4 retire, 5 amend. One that is none
-//! ends PROGRAM with a message, and is tried first.
+//! are 0 file, 1 close, 2 trade, 3 apply, 4 retire, 5 amend, 7 cover. One that
+//! is none ends PROGRAM with a message, and is tried first.
 //!
 //! One record in three is of kind 6, followed by as many bytes as its first
 //! argument says, at most 229,441. These are read as a text with the book lent,
@@ -21,6 +21,7 @@ mod aimed;
 mod asking;
 mod calls;
 mod case;
+mod covers;
 mod refused;
 mod tally;
 mod texts;

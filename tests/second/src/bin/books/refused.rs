@@ -1,7 +1,7 @@
 //! Records that are none: each must get a message and no answer, nor may the
 //! good record after it.
 
-use crate::calls::{KINDS, TEXT};
+use crate::calls::{COVER, KINDS};
 use crate::case::Case;
 use crate::texts::{TextCase, MOST};
 use second::generate::rng::Rng;
@@ -11,7 +11,17 @@ use std::process::{Command, Output, Stdio};
 use std::thread;
 
 /// Kinds that are none; a remainder or a narrower type takes each for one.
-const NO_KINDS: [u64; 7] = [7, 11, 1 << 8, (1 << 8) + 5, 1 << 16, 1 << 32, 1 << 63];
+const NO_KINDS: [u64; 9] = [
+    8,
+    11,
+    15,
+    1 << 8,
+    (1 << 8) + 5,
+    (1 << 8) + 7,
+    1 << 16,
+    1 << 32,
+    1 << 63,
+];
 
 /// More bytes than a record may have.
 const TOO_MANY: [u64; 4] = [MOST as u64 + 1, (1 << 32) + 1, 1 << 63, u64::MAX];
@@ -53,4 +63,4 @@ fn run(program: &OsStr, input: &[u8]) -> io::Result<Output> {
     })
 }
 
-const _: () = assert!(TEXT == KINDS && NO_KINDS[0] as usize == TEXT + 1);
+const _: () = assert!(COVER + 1 == KINDS && NO_KINDS[0] as usize == KINDS);

@@ -2,6 +2,7 @@
 
 use crate::calls::{call_of, kind_of, KINDS};
 use crate::case::Case;
+use crate::covers::Covers;
 use crate::texts::{Outcome, TextCase};
 use second::book::{cell, MAKERS};
 use second::postings::{Answer, Call, Filing, Refusal, Results};
@@ -19,6 +20,7 @@ pub struct Tally {
     /// Accepted amendments whose part became 0, or changed its sign.
     to_nothing: u64,
     to_other_sign: u64,
+    covers: Covers,
     refused: [u64; 21],
     tables: Tables,
     texts: Texts,
@@ -144,6 +146,7 @@ impl Tally {
         match (call_of(&case.call), answer) {
             (Call::File(filing), Ok(_)) => self.filed_under[filing.edition as usize] += 1,
             (Call::Amend(amended), Ok(results)) => self.count_amended(case, &amended, results),
+            (Call::Cover(cover), Ok(_)) => self.covers.count(&case.book, &cover),
             _ => {}
         }
     }
@@ -175,7 +178,7 @@ impl Tally {
     }
 
     pub fn by_kind(&self) -> String {
-        let [file, close, trade, apply, retire, amend] = self.accepted;
+        let [file, close, trade, apply, retire, amend, _, cover] = self.accepted;
         let [ordinary, earlier, later] = self.filed_under;
         let amended = self.amended_under;
         let Tally {
@@ -183,6 +186,7 @@ impl Tally {
             sound,
             to_nothing,
             to_other_sign,
+            covers,
             tables,
             texts,
             ..
@@ -191,7 +195,8 @@ impl Tally {
             "{sound} of {books} books sound; accepted: \
              file {file} (by edition {ordinary}, {earlier}, {later}), \
              amend {amend} (by edition {}, {}, {}; part to 0 {to_nothing}, to the other sign {to_other_sign}), \
-             close {close}, trade {trade}, apply {apply}, retire {retire}; {tables}; texts: {texts}",
+             close {close}, trade {trade}, apply {apply}, retire {retire}, \
+             cover {cover} ({covers}); {tables}; texts: {texts}",
             amended[0], amended[1], amended[2]
         )
     }

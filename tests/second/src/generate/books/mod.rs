@@ -1,6 +1,7 @@
 //! Books for testing: sound ones, ones with a fault, and any others.
 
 mod faulty;
+mod payable;
 mod sound;
 
 use super::rng::Rng;
@@ -8,6 +9,7 @@ use crate::book::{Book, CELLS, FAMILIES, LOTS_LIMIT, PART_LIMIT, SHORTAGE_LIMIT}
 use crate::figuring::{Mg, Part, ALL_CLOSED, FIRST_YEAR, YEARS};
 pub use faulty::Fault;
 use faulty::{faulty_book, FAULTS};
+pub use payable::payable_book;
 pub use sound::{full_book, sparse_book};
 use sound::{some_open_year, sound_book};
 
@@ -16,6 +18,8 @@ use sound::{some_open_year, sound_book};
 pub enum Make {
     /// Sound, with figures in every place.
     Sound,
+    /// Sound, with lots and shortages of like size.
+    Payable,
     /// Sound but for one fault.
     Fault(Fault),
     /// Sound but for a few places that hold anything.
@@ -27,7 +31,8 @@ pub enum Make {
 impl Make {
     pub fn drawn(rng: &mut Rng) -> Self {
         match rng.below(20) {
-            0..=12 => Make::Sound,
+            0..=10 => Make::Sound,
+            11 | 12 => Make::Payable,
             13..=16 => Make::Fault(FAULTS[rng.index(FAULTS.len())]),
             17 | 18 => Make::Touched,
             _ => Make::Wild,
@@ -46,7 +51,7 @@ impl Make {
     /// Whether its books are sound, where that is known beforehand.
     pub fn soundness(self) -> Option<bool> {
         match self {
-            Make::Sound => Some(true),
+            Make::Sound | Make::Payable => Some(true),
             Make::Fault(_) => Some(false),
             Make::Touched | Make::Wild => None,
         }
@@ -58,6 +63,7 @@ impl Make {
                 let open_year = some_open_year(rng);
                 sound_book(rng, open_year)
             }
+            Make::Payable => payable_book(rng),
             Make::Fault(fault) => faulty_book(rng, fault),
             Make::Touched => touched_book(rng),
             Make::Wild => wild_book(rng),

@@ -3,6 +3,7 @@
 use Prim.Native.Nat.{ℕ, ◌≤◌, ◌<◌}
 use mathlib.Core.Bool.{true, not, false≢true}
 use mathlib.Core.List.{List, [], ◌∷◌, map}
+use mathlib.Core.Logic.{◌≢◌}
 use mathlib.Core.Path.{◌≡◌, refl, ◌∙◌, ap}
 use native.Mathlib.Omega.{arith}
 use borrow.Author.Tests.{leb-false, lt-leb}
@@ -15,9 +16,9 @@ use Rattle.book.specs.Below.{only}
 use Rattle.book.specs.Ledger.{Key, key, In, figure_at}
 use Rattle.book.specs.Soundness.{sound}
 use Rattle.book.specs.Refusals.{first_refusal}
-use Rattle.book.specs.Postings.{application_done}
+use Rattle.book.specs.Postings.{applied_lot, covered_shortage, application_done}
 use Rattle.book.specs.Coverage.{Payment, coverage}
-use Rattle.book.specs.Covering.{application, applications_of, in_book, lots_paid, shortages_paid, all_applied, cover_done}
+use Rattle.book.specs.Covering.{application, applications_of, in_book, all_lowered, all_applied, cover_done}
 use Rattle.book.specs.Rules.{cover_rows, own_rows, posted, done}
 use Rattle.book.specs.Accounts.{Accounts, with_mg, add_all, lot_by, shortage_by, in_accounts, move}
 use Rattle.book.specs.Demand3.{is_accepted}
@@ -34,7 +35,7 @@ use Rattle.book.proofs.MoveFacts.{applicable, live_in, open_in}
 use Rattle.book.proofs.MovingLaws.{apply_sound, apply_agrees}
 use Rattle.book.proofs.Balances.{Agree}
 use Rattle.book.proofs.Lawful.{Lawful}
-use Rattle.book.proofs.CoverTurns.{AllTaken, all_taken, AllAlive, payments_alive, lists_alive}
+use Rattle.book.proofs.CoverTurns.{AllTaken, all_taken, IsAlive, AllAlive, payments_alive, lists_alive}
 
 -- ---- what an accepted cover says
 pub record Coverable (b : Book) (c : Cover) : Type 0 where
@@ -63,20 +64,16 @@ posted_cover t b c g =
     (rw (lt-leb makers c.maker g.maker, lt-leb sets c.set g.set))
 
 -- ---- lists of applications
-pub lots_length : (ps : List Application) (l : List ℕ) → length (lots_paid ps l) ≡ length l
-unfolding lots_paid
-lots_length [] l = refl
-lots_length (p ∷ ps) l = lots_length ps _ ∙ length_lower l _ _
-
-pub shortages_length : (ps : List Application) (l : List ℕ) → length (shortages_paid ps l) ≡ length l
-unfolding shortages_paid
-shortages_length [] l = refl
-shortages_length (p ∷ ps) l = shortages_length ps _ ∙ length_lower l _ _
+pub length_lowered :
+    (which : Application → Key) (ps : List Application) (l : List ℕ) → length (all_lowered which ps l) ≡ length l
+unfolding all_lowered
+length_lowered which [] l = refl
+length_lowered which (p ∷ ps) l = length_lowered which ps _ ∙ length_lower l _ _
 
 taken_sound :
     (ps : List Application) (b : Book) → length b.lots ≡ places → length b.shortages ≡ places → AllTaken b ps
     → Sound b → Sound (all_applied b ps)
-unfolding lots_paid shortages_paid application_done
+unfolding all_lowered application_done
 taken_sound [] b zl zs h s = s
 taken_sound (p ∷ ps) b zl zs h s =
     taken_sound ps (application_done b p).book (length_lower b.lots _ _ ∙ zl) (length_lower b.shortages _ _ ∙ zs) h.2
@@ -85,7 +82,7 @@ taken_sound (p ∷ ps) b zl zs h s =
 taken_agrees :
     (t : Table) (ps : List Application) (b : Book) (a : Accounts) → AllTaken b ps → Agree b a
     → Agree (all_applied b ps) (with_mg a (add_all ps a.mg))
-unfolding lots_paid shortages_paid add_all application_done
+unfolding all_lowered add_all application_done
 taken_agrees t [] b a h g = g
 taken_agrees t (p ∷ ps) b a h g =
     taken_agrees t ps (application_done b p).book (move t a (Call.Apply p)) h.2
@@ -93,27 +90,34 @@ taken_agrees t (p ∷ ps) b a h g =
 
 -- figures of other years than theirs stay
 module _ (Y : ℕ) (c : Cover) (hm : c.maker < makers) (hs : c.set < sets) (upto : Y ≤ all_closed) (k : Key) (i : In k) where
+  elsewhere :
+      (which : Application → Key)
+      → ((p : Payment) → IsAlive Y p → In (which (application c p)) × ((which (application c p)).year ≢ k.year))
+      → (ps : List Payment) (l : List ℕ) → AllAlive Y ps
+      → figure_at (all_lowered which (map (application c) ps) l) k ≡ figure_at l k
+  unfolding all_lowered
+  elsewhere which f [] l a = refl
+  elsewhere which f (p ∷ ps) l a =
+      let w = f p a.0 in
+      elsewhere which f ps _ a.1 ∙ lower_elsewhere l (which (application c p)) k p.mg w.0 i w.1
+
   lots_stay :
       Old 6 Y k.year → (ps : List Payment) (l : List ℕ) → AllAlive Y ps
-      → figure_at (lots_paid (map (application c) ps) l) k ≡ figure_at l k
-  unfolding lots_paid
-  lots_stay o [] l a = refl
-  lots_stay o (p ∷ ps) l a =
-      lots_stay o ps _ a.2
-      ∙ lower_elsewhere l (key c.maker c.set p.vintage) k p.mg
-      (live_in Y (key c.maker c.set p.vintage) upto hm hs (ap not a.0)) i
-      (omega (arith, o, live_is Y p.vintage (ap not a.0)))
+      → figure_at (all_lowered applied_lot (map (application c) ps) l) k ≡ figure_at l k
+  lots_stay o =
+      elsewhere applied_lot (λ p a. (
+        live_in Y (key c.maker c.set p.vintage) upto hm hs (ap not a.0),
+        omega (arith, o, live_is Y p.vintage (ap not a.0)),
+      ))
 
   shortages_stay :
       Old 4 Y k.year → (ps : List Payment) (l : List ℕ) → AllAlive Y ps
-      → figure_at (shortages_paid (map (application c) ps) l) k ≡ figure_at l k
-  unfolding shortages_paid
-  shortages_stay o [] l a = refl
-  shortages_stay o (p ∷ ps) l a =
-      shortages_stay o ps _ a.2
-      ∙ lower_elsewhere l (key c.maker c.set p.year) k p.mg
-      (open_in Y (key c.maker c.set p.year) upto hm hs (ap not a.1)) i
-      (omega (arith, o, open_is Y p.year (ap not a.1)))
+      → figure_at (all_lowered covered_shortage (map (application c) ps) l) k ≡ figure_at l k
+  shortages_stay o =
+      elsewhere covered_shortage (λ p a. (
+        open_in Y (key c.maker c.set p.year) upto hm hs (ap not a.1),
+        omega (arith, o, open_is Y p.year (ap not a.1)),
+      ))
 
 -- ---- a cover
 module _ (b : Book) (c : Cover) (g : Coverable b c) where
@@ -164,8 +168,8 @@ module _ (b : Book) (c : Cover) (g : Coverable b c) where
         sized = λ z. record {
           marks = z.marks;
           parts = z.parts;
-          lots = lots_length _ b.lots ∙ z.lots;
-          shortages = shortages_length _ b.shortages ∙ z.shortages;
+          lots = length_lowered applied_lot _ b.lots ∙ z.lots;
+          shortages = length_lowered covered_shortage _ b.shortages ∙ z.shortages;
         };
         sound = λ z.
             taken_sound (applications_of c (in_book b c)) b z.lots z.shortages (cover_taken z.lots z.shortages) soundly;

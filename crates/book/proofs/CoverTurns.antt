@@ -16,9 +16,9 @@ use Rattle.book.specs.Accounts.{same_key}
 use Rattle.book.specs.Ledger.{Key, key, In, place, figure_at, lower}
 use Rattle.book.specs.Soundness.{sound}
 use Rattle.book.specs.Refusals.{first_refusal}
-use Rattle.book.specs.Postings.{application_done}
+use Rattle.book.specs.Postings.{applied_lot, covered_shortage, application_done}
 use Rattle.book.specs.Coverage.{Standing, Turn, turn, Payment, amount, after, paying, payments}
-use Rattle.book.specs.Covering.{application, in_lists, in_book, lots_paid, shortages_paid}
+use Rattle.book.specs.Covering.{application, in_lists, in_book, all_lowered}
 use Rattle.book.specs.Rules.{apply_rows}
 use Rattle.book.specs.declared.ledger.Book.{Book}
 use Rattle.book.specs.declared.kinds.Application.{Application}
@@ -97,10 +97,10 @@ module _ (Y : ℕ) (c : Cover) (l s : List ℕ) (hm : c.maker < makers) (hs : c.
 module _ (Y : ℕ) (c : Cover) (hm : c.maker < makers) (hs : c.set < sets) (upto : Y ≤ all_closed) where
   pub turns_stand :
       (ts : List Turn) (l s : List ℕ) → length l ≡ places → length s ≡ places
-      → in_lists Y (lots_paid (map (application c) (payments (in_lists Y l s c) ts)) l)
-      (shortages_paid (map (application c) (payments (in_lists Y l s c) ts)) s) c
+      → in_lists Y (all_lowered applied_lot (map (application c) (payments (in_lists Y l s c) ts)) l)
+      (all_lowered covered_shortage (map (application c) (payments (in_lists Y l s c) ts)) s) c
       ≡ left_after (in_lists Y l s c) ts
-  unfolding payments left_after lots_paid shortages_paid
+  unfolding payments left_after all_lowered
   turns_stand [] l s zl zs = refl
   turns_stand (t ∷ ts) l s zl zs = go (amount h t) refl (turns_stand ts)
     where
@@ -110,15 +110,15 @@ module _ (Y : ℕ) (c : Cover) (hm : c.maker < makers) (hs : c.set < sets) (upto
       -- the payments that follow, made in these lists, leave what stands after the turns
       Stand : List ℕ → List ℕ → Standing → Type 0
       Stand l s h =
-          in_lists Y (lots_paid (map (application c) (payments h ts)) l)
-          (shortages_paid (map (application c) (payments h ts)) s) c
+          in_lists Y (all_lowered applied_lot (map (application c) (payments h ts)) l)
+          (all_lowered covered_shortage (map (application c) (payments h ts)) s) c
           ≡ left_after h ts
 
       go :
           (n : ℕ) → amount h t ≡ n
           → ((l s : List ℕ) → length l ≡ places → length s ≡ places → Stand l s (in_lists Y l s c))
-          → in_lists Y (lots_paid (map (application c) (paying t n (payments (after h t) ts))) l)
-          (shortages_paid (map (application c) (paying t n (payments (after h t) ts))) s) c
+          → in_lists Y (all_lowered applied_lot (map (application c) (paying t n (payments (after h t) ts))) l)
+          (all_lowered covered_shortage (map (application c) (paying t n (payments (after h t) ts))) s) c
           ≡ left_after (after h t) ts
       go zero e r = subst (Stand l s) (sym (still h t e)) (r l s zl zs)
       go (suc n) e r =
@@ -199,9 +199,12 @@ pub record Alive (Y : ℕ) (h : Standing) : Type 0 where
   pub lot : (v : ℕ) → 0 < h.lots v → live Y v ≡ true
   pub short : (y : ℕ) → 0 < h.shorts y → open_short Y y ≡ true
 
+abbrev pub IsAlive : ℕ → Payment → Type 0
+IsAlive Y p = (live Y p.vintage ≡ true) × (open_short Y p.year ≡ true)
+
 abbrev pub AllAlive : ℕ → List Payment → Type 0
 AllAlive Y [] = Unit {0}
-AllAlive Y (p ∷ ps) = (live Y p.vintage ≡ true) × (open_short Y p.year ≡ true) × AllAlive Y ps
+AllAlive Y (p ∷ ps) = IsAlive Y p × AllAlive Y ps
 
 alive_after : (Y : ℕ) (h : Standing) (t : Turn) → Alive Y h → Alive Y (after h t)
 unfolding after
@@ -214,7 +217,7 @@ payments_alive Y (t ∷ ts) h a = go (amount h t) refl (payments_alive Y ts (aft
   where
     go : (n : ℕ) → amount h t ≡ n → AllAlive Y (payments (after h t) ts) → AllAlive Y (paying t n (payments (after h t) ts))
     go zero e r = r
-    go (suc n) e r = (a.lot t.vintage (omega arith), a.short t.year (omega arith), r)
+    go (suc n) e r = ((a.lot t.vintage (omega arith), a.short t.year (omega arith)), r)
 
 pub lists_alive : (Y : ℕ) (l s : List ℕ) (c : Cover) → Alive Y (in_lists Y l s c)
 lists_alive Y l s c =

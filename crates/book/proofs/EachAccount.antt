@@ -25,6 +25,6 @@ each_account =
       last_figures = (refl, refl, refl, refl, refl);
       own_standards = (refl, refl, refl, refl);
       opening_figures = (refl, refl, refl, refl, refl);
-      oldest_first = (refl, refl, refl, refl, refl, refl, refl, refl, refl, refl);
+      oldest_first = (refl, refl, refl, refl, refl, refl, refl, refl, refl, refl, refl);
       other_set = refl;
     }

@@ -21,7 +21,7 @@ use Rattle.book.specs.Soundness.{sound}
 use Rattle.book.specs.Refusals.{first_refusal, values_in, result_in}
 use Rattle.book.specs.Postings.{application_done}
 use Rattle.book.specs.Coverage.{Standing, Payment, coverage, total}
-use Rattle.book.specs.Covering.{application, applications_of, in_book, lots_paid, shortages_paid}
+use Rattle.book.specs.Covering.{application, applications_of, in_book, all_lowered}
 use Rattle.book.specs.Covering.{all_applied, moved_by, cover_done}
 use Rattle.book.specs.Paying.{all_turns}
 use Rattle.book.specs.Rules.{own_rows, apply_rows, posted, done}
@@ -55,7 +55,7 @@ module _ (t : Table) where
   taken_posted b p s e = own_decide t b (Call.Apply p) (sound_head b [] s) e
 
   taken_book : (ps : List Application) (b : Book) → AllTaken b ps → book_after b (as_calls t ps) ≡ all_applied b ps
-  unfolding book_after lots_paid shortages_paid application_done
+  unfolding book_after all_lowered application_done
   taken_book [] b h = refl
   taken_book (p ∷ ps) b h =
       ap (λ (q : Posted). book_after q.book (as_calls t ps)) (taken_posted b p h.0 h.1)

@@ -12,8 +12,8 @@ use Rattle.book.specs.Below.{only}
 use Rattle.book.specs.Ledger.{Key, key, lower}
 use Rattle.book.specs.Places.{key_of, cell_of}
 use Rattle.book.specs.Coverage.{Standing, Turn, turn, Payment, amount, after, paying, payments, rising, turns, model_years, coverage, total}
-use Rattle.book.specs.Covering.{application, in_lists, in_book, lots_paid, shortages_paid, all_applied, moved_by}
-use Rattle.book.specs.Postings.{moved}
+use Rattle.book.specs.Covering.{application, in_lists, in_book, all_lowered, all_applied, moved_by}
+use Rattle.book.specs.Postings.{moved, applied_lot, covered_shortage}
 use Rattle.book.specs.Paying.{turns_of, all_turns, paid_in, Payable, Paid}
 use Rattle.book.specs.Companions.{Sized}
 use Rattle.book.specs.declared.ledger.Book.{Book}
@@ -24,7 +24,7 @@ use Rattle.book.proofs.PlaceLaws.{counted, counted_on}
 use Rattle.book.proofs.SoundnessLaws.{sound_is}
 use Rattle.book.proofs.TurnLaws.{still, left_after}
 use Rattle.book.proofs.CoverTurns.{lower_none, turns_stand}
-use Rattle.book.proofs.CoverLaws.{Coverable, lots_length, shortages_length}
+use Rattle.book.proofs.CoverLaws.{Coverable, length_lowered}
 
 -- ---- turns after turns
 payments_append :
@@ -44,41 +44,34 @@ unfolding total
 total_append [] qs = omega arith
 total_append (p ∷ ps) qs = omega (arith, total_append ps qs)
 
-module _ (c : Cover) where
-  lots_append :
-      (ps qs : List Payment) (l : List ℕ)
-      → lots_paid (map (application c) (ps ++ qs)) l ≡ lots_paid (map (application c) qs) (lots_paid (map (application c) ps) l)
-  unfolding lots_paid
-  lots_append [] qs l = refl
-  lots_append (p ∷ ps) qs l = lots_append ps qs _
-
-  shortages_append :
-      (ps qs : List Payment) (l : List ℕ)
-      → shortages_paid (map (application c) (ps ++ qs)) l
-      ≡ shortages_paid (map (application c) qs) (shortages_paid (map (application c) ps) l)
-  unfolding shortages_paid
-  shortages_append [] qs l = refl
-  shortages_append (p ∷ ps) qs l = shortages_append ps qs _
+lowered_append :
+    (which : Application → Key) (c : Cover) (ps qs : List Payment) (l : List ℕ)
+    → all_lowered which (map (application c) (ps ++ qs)) l
+    ≡ all_lowered which (map (application c) qs) (all_lowered which (map (application c) ps) l)
+unfolding all_lowered
+lowered_append which c [] qs l = refl
+lowered_append which c (p ∷ ps) qs l = lowered_append which c ps qs _
 
 -- applications after applications
 applied_append :
     (b : Book) (c : Cover) (ps qs : List Payment)
     → all_applied b (map (application c) (ps ++ qs))
     ≡ all_applied (all_applied b (map (application c) ps)) (map (application c) qs)
-applied_append b c ps qs = ap₂ (moved b) (lots_append c ps qs b.lots) (shortages_append c ps qs b.shortages)
+applied_append b c ps qs =
+    ap₂ (moved b) (lowered_append applied_lot c ps qs b.lots) (lowered_append covered_shortage c ps qs b.shortages)
 
 paid_none : {b : Book} {c : Cover} → Paid b c [] b 0
-unfolding payments lots_paid shortages_paid total
+unfolding payments all_lowered total
 paid_none = record { book = refl; sum = refl }
 
 -- some turns that were paid from a book, and others after them
 module _ {b : Book} {c : Cover} {all ts : List Turn} {d : Book} {n : ℕ} (ok : Payable b c all) (p : Paid b c ts d n) where
   -- the lists are as long as they were
   lots_stay : length d.lots ≡ places
-  lots_stay = ap (λ (x : Book). length x.lots) p.book ∙ lots_length _ b.lots ∙ ok.lots
+  lots_stay = ap (λ (x : Book). length x.lots) p.book ∙ length_lowered applied_lot _ b.lots ∙ ok.lots
 
   shortages_stay : length d.shortages ≡ places
-  shortages_stay = ap (λ (x : Book). length x.shortages) p.book ∙ shortages_length _ b.shortages ∙ ok.shortages
+  shortages_stay = ap (λ (x : Book). length x.shortages) p.book ∙ length_lowered covered_shortage _ b.shortages ∙ ok.shortages
 
   -- what is paid after them is paid from what now stands in the book
   after_them : (us : List Turn) → paid_in b c (ts ++ us) ≡ paid_in b c ts ++ paid_in d c us
@@ -132,15 +125,14 @@ module _ (c : Cover) (l s : List ℕ) (v y : ℕ) where
   abbrev one : ℕ → List Application
   one q = map (application c) (paying (turn y v) q [])
 
-  lot_lowered : (q : ℕ) → lots_paid (one q) l ≡ lower l (key c.maker c.set v) q
-  unfolding lots_paid
-  lot_lowered zero = sym (lower_none l _)
-  lot_lowered (suc q) = refl
-
-  shortage_lowered : (q : ℕ) → shortages_paid (one q) s ≡ lower s (key c.maker c.set y) q
-  unfolding shortages_paid
-  shortage_lowered zero = sym (lower_none s _)
-  shortage_lowered (suc q) = refl
+  -- of the figures that it lowers, the one at a key which does not hang on the Mg; 0 Mg are none
+  one_lowered :
+      (which : Application → Key) (k : Key)
+      → ((q : ℕ) → which (application c (record { vintage = v; year = y; mg = q })) ≡ k)
+      → (q : ℕ) (f : List ℕ) → all_lowered which (one q) f ≡ lower f k q
+  unfolding all_lowered
+  one_lowered which k at_k zero f = sym (lower_none f k)
+  one_lowered which k at_k (suc q) f = ap (λ (j : Key). lower f j (suc q)) (at_k (suc q))
 
   total_one : (q : ℕ) → total (paying (turn y v) q []) ≡ q
   unfolding total
@@ -150,15 +142,15 @@ module _ (c : Cover) (l s : List ℕ) (v y : ℕ) where
   pub turn_paid :
       (Y : ℕ) {n : ℕ} {l' s' : List ℕ} → n ≡ amount (in_lists Y l s c) (turn y v)
       → l' ≡ lower l (key c.maker c.set v) n → s' ≡ lower s (key c.maker c.set y) n
-      → (l' ≡ lots_paid (map (application c) (payments (in_lists Y l s c) (turn y v ∷ []))) l)
-      × (s' ≡ shortages_paid (map (application c) (payments (in_lists Y l s c) (turn y v ∷ []))) s)
+      → (l' ≡ all_lowered applied_lot (map (application c) (payments (in_lists Y l s c) (turn y v ∷ []))) l)
+      × (s' ≡ all_lowered covered_shortage (map (application c) (payments (in_lists Y l s c) (turn y v ∷ []))) s)
       × (n ≡ total (payments (in_lists Y l s c) (turn y v ∷ [])))
   unfolding payments
   turn_paid Y {n} e el es =
       let q = amount (in_lists Y l s c) (turn y v) in
       rw (el, es) (
-        ap (lower l (key c.maker c.set v)) e ∙ sym (lot_lowered q),
-        ap (lower s (key c.maker c.set y)) e ∙ sym (shortage_lowered q),
+        ap (lower l (key c.maker c.set v)) e ∙ sym (one_lowered applied_lot _ (λ n. refl) q l),
+        ap (lower s (key c.maker c.set y)) e ∙ sym (one_lowered covered_shortage _ (λ n. refl) q s),
         e ∙ sym (total_one q),
       )
 
@@ -175,7 +167,7 @@ module _ (y : ℕ) where
       ∙ ap (λ (g : Standing). payments g (map (turn y) vs)) (still h (turn y v) z) ∙ none_asked vs h e
 
   pub not_open_paid : {b : Book} {c : Cover} → open_short b.open_year y ≡ false → Paid b c (turns_of y) b 0
-  unfolding lots_paid shortages_paid total only
+  unfolding all_lowered total only
   not_open_paid {b} {c} e =
       let z : (in_book b c).shorts y ≡ 0 = rw e in
       let r = none_asked model_years (in_book b c) z in

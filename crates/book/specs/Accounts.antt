@@ -7,10 +7,10 @@ use Rattle.figuring.specs.Tables.{Table}
 use Rattle.figuring.specs.Netting.{net_of, earned_of, shortfall_of}
 use Rattle.book.specs.Sizes.{families}
 use Rattle.book.specs.Below.{only, sum_below_ℤ}
-use Rattle.book.specs.Ledger.{Key, key}
+use Rattle.book.specs.Ledger.{Key}
 use Rattle.book.specs.Postings.{part_for, filing_key, seller_lot, buyer_lot, applied_lot, covered_shortage, retired_lot}
-use Rattle.book.specs.Coverage.{Standing, standing}
-use Rattle.book.specs.Covering.{applications_of}
+use Rattle.book.specs.Coverage.{Standing}
+use Rattle.book.specs.Covering.{in_cell, applications_of}
 use Rattle.book.specs.declared.kinds.Application.{Application}
 use Rattle.book.specs.declared.kinds.Call.{Call}
 use Rattle.book.specs.declared.kinds.Cover.{Cover}
@@ -132,8 +132,7 @@ add_all (p ∷ ps) g = add_all ps (add_applied p g)
 
 -- the applications of a cover: "the accounts figure these by this same rule from their own balances and open year"
 abbrev pub in_accounts : Accounts → Cover → Standing
-in_accounts a c =
-    standing a.open_year (λ v. lot_by a (key c.maker c.set v)) (λ y. shortage_by a (key c.maker c.set y))
+in_accounts a c = in_cell a.open_year (lot_by a) (shortage_by a) c
 
 abbrev pub made_by : Accounts → Cover → List Application
 made_by a c = applications_of c (in_accounts a c)

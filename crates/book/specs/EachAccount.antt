@@ -146,7 +146,7 @@ after_reading = accounts_from (opening_of read_in) begun_on_it
 
 -- Card 9: a book read in, whose open year is 2025. Of heavy families maker 0 has lots of 2018, which is expired, of 2019
 -- and of 2022, and shortages of 2020, which is overdue, of 2021 and of 2024; maker 1 lots of 2019 and 2020, and shortages
--- of 2021 and 2022.
+-- of 2021, 2022 and 2023. Maker 0's live lots are more than its open shortages, maker 1's in 2026 less.
 abbrev pub many_years : Book
 many_years =
     record {
@@ -155,12 +155,13 @@ many_years =
       parts = replicate all_parts (pos 0);
       lots =
           raise
-          (raise (raise (raise (raise (replicate places 0) (key 0 3 2018) 30) (key 0 3 2019) 50) (key 0 3 2022) 60)
+          (raise (raise (raise (raise (replicate places 0) (key 0 3 2018) 30) (key 0 3 2019) 50) (key 0 3 2022) 100)
           (key 1 3 2019) 50) (key 1 3 2020) 8;
       shortages =
           raise
+          (raise
           (raise (raise (raise (raise (replicate places 0) (key 0 3 2020) 40) (key 0 3 2021) 70) (key 0 3 2024) 60)
-          (key 1 3 2021) 5) (key 1 3 2022) 6;
+          (key 1 3 2021) 5) (key 1 3 2022) 6) (key 1 3 2023) 7;
     }
 
 abbrev pub cover_call : ℕ → ℕ → Call
@@ -224,17 +225,18 @@ pub record EachAccount : Type 0 where
       × (from_opening after_reading (key 1 3 2024) ≡ 0 ∷ 0 ∷ 0 ∷ 0 ∷ 200 ∷ 0 ∷ 30 ∷ 0 ∷ 0 ∷ [])
       × (from_opening after_reading (key 0 3 2025) ≡ 0 ∷ 0 ∷ 5 ∷ 0 ∷ 0 ∷ 0 ∷ 0 ∷ 0 ∷ 0 ∷ [])
       × (from_opening after_reading (key 1 3 2025) ≡ 0 ∷ 0 ∷ 6 ∷ 0 ∷ 0 ∷ 0 ∷ 0 ∷ 0 ∷ 0 ∷ [])
-  -- maker 0's shortage of 2021 is covered from all of 2019 and some of 2022, then 40 of 2024's from the rest of 2022; maker
-  -- 1's of 2022 from 2020, in the accounts' own open year, 2026; expired lots and overdue shortages stay
+  -- maker 0's shortage of 2021 is covered from all of 2019 and some of 2022, then that of 2024 from more of 2022; maker 1's
+  -- of 2022 and some of 2023 from 2020, in the accounts' own open year, 2026; expired lots and overdue shortages stay
   pub oldest_first :
       (from_opening after_covers (key 0 3 2018) ≡ 30 ∷ 0 ∷ 0 ∷ 0 ∷ 0 ∷ 0 ∷ 0 ∷ 0 ∷ 0 ∷ [])
       × (from_opening after_covers (key 0 3 2019) ≡ 50 ∷ 0 ∷ 0 ∷ 0 ∷ 0 ∷ 0 ∷ 50 ∷ 0 ∷ 0 ∷ [])
       × (from_opening after_covers (key 0 3 2020) ≡ 0 ∷ 40 ∷ 0 ∷ 0 ∷ 0 ∷ 0 ∷ 0 ∷ 0 ∷ 0 ∷ [])
       × (from_opening after_covers (key 0 3 2021) ≡ 0 ∷ 70 ∷ 0 ∷ 0 ∷ 0 ∷ 0 ∷ 0 ∷ 0 ∷ 70 ∷ [])
-      × (from_opening after_covers (key 0 3 2022) ≡ 60 ∷ 0 ∷ 0 ∷ 0 ∷ 0 ∷ 0 ∷ 60 ∷ 0 ∷ 0 ∷ [])
-      × (from_opening after_covers (key 0 3 2024) ≡ 0 ∷ 60 ∷ 0 ∷ 0 ∷ 0 ∷ 0 ∷ 0 ∷ 0 ∷ 40 ∷ [])
+      × (from_opening after_covers (key 0 3 2022) ≡ 100 ∷ 0 ∷ 0 ∷ 0 ∷ 0 ∷ 0 ∷ 80 ∷ 0 ∷ 0 ∷ [])
+      × (from_opening after_covers (key 0 3 2024) ≡ 0 ∷ 60 ∷ 0 ∷ 0 ∷ 0 ∷ 0 ∷ 0 ∷ 0 ∷ 60 ∷ [])
       × (from_opening after_covers (key 1 3 2019) ≡ 50 ∷ 0 ∷ 0 ∷ 0 ∷ 0 ∷ 0 ∷ 0 ∷ 0 ∷ 0 ∷ [])
-      × (from_opening after_covers (key 1 3 2020) ≡ 8 ∷ 0 ∷ 0 ∷ 0 ∷ 0 ∷ 0 ∷ 6 ∷ 0 ∷ 0 ∷ [])
+      × (from_opening after_covers (key 1 3 2020) ≡ 8 ∷ 0 ∷ 0 ∷ 0 ∷ 0 ∷ 0 ∷ 8 ∷ 0 ∷ 0 ∷ [])
       × (from_opening after_covers (key 1 3 2021) ≡ 0 ∷ 5 ∷ 0 ∷ 0 ∷ 0 ∷ 0 ∷ 0 ∷ 0 ∷ 0 ∷ [])
       × (from_opening after_covers (key 1 3 2022) ≡ 0 ∷ 6 ∷ 0 ∷ 0 ∷ 0 ∷ 0 ∷ 0 ∷ 0 ∷ 6 ∷ [])
+      × (from_opening after_covers (key 1 3 2023) ≡ 0 ∷ 7 ∷ 0 ∷ 0 ∷ 0 ∷ 0 ∷ 0 ∷ 0 ∷ 2 ∷ [])
   pub other_set : mg_at (accounts_of example) (key 0 2 2014) ≡ 0 ∷ 0 ∷ 0 ∷ 0 ∷ 0 ∷ 0 ∷ 0 ∷ []

@@ -11,7 +11,8 @@ use lib.Seq.{get_or-set_same, set-get_or, set-set}
 use lib.IntN.{ℤ}
 use Rattle.figuring.proofs.BoolLaws.{both}
 use Rattle.figuring.specs.Tables.{Table, accepted_table}
-use Rattle.book.specs.Filings.{with_amends}
+use Rattle.book.specs.Filings.{with_purpose}
+use Rattle.book.specs.Limits.{amends, large_entry, in_large_entry}
 use Rattle.book.specs.Sizes.{families}
 use Rattle.book.specs.Ledger.{cell, with_mark}
 use Rattle.book.specs.Soundness.{sound}
@@ -25,6 +26,7 @@ use Rattle.book.specs.Amendments.{replaced, Amended, in_place_of9, StandsInPlace
 use Rattle.book.specs.declared.ledger.Book.{Book}
 use Rattle.book.specs.declared.kinds.Call.{Call}
 use Rattle.book.specs.declared.kinds.Filing.{Filing}
+use Rattle.book.specs.declared.kinds.Purpose.{Purpose}
 use Rattle.book.specs.declared.answers.Posted.{Posted}
 use Rattle.std.specs.Prelude.{Ok, Err}
 use Rattle.book.proofs.TableLaws.{alike, same_after, by_verdict}
@@ -35,20 +37,20 @@ use Rattle.book.proofs.FilingLaws.{mark_here, still_sound}
 use Rattle.book.proofs.MarkLaws.{marked_same, mark_kept}
 
 -- ---- what an accepted amendment replaces
-pub amends : (t : Table) (b : Book) (f : Filing) → Amended t b f
+pub replaces : (t : Table) (b : Book) (f : Filing) → Amended t b f
 unfolding own_rows done stored part_beside is_accepted
-amends t b f =
-    by_verdict t b (Call.File (with_amends true f)) (λ p. is_accepted p.answer ≡ true → p ≡ replaced t b f)
+replaces t b f =
+    by_verdict t b (Call.File (with_purpose Purpose.Amend f)) (λ p. is_accepted p.answer ≡ true → p ≡ replaced t b f)
     (λ r a. absurd (true≢false (sym a)))
     (λ s e a.
     let mark = get_or b.marks (filing_cell f) 0 in
-    let k : with_mark mark f.family ≡ mark = mark_kept mark f.family (fileable t b (with_amends true f) s e).mark in
+    let k : with_mark mark f.family ≡ mark = mark_kept mark f.family (fileable t b (with_purpose Purpose.Amend f) s e).mark in
     let m : store b.marks (filing_cell f) mark ≡ b.marks = set-get_or b.marks (filing_cell f) 0 in
     rw (k, m))
 
 -- ---- which are accepted
 -- the number of a verdict, 0 where it accepts
-abbrev numbered : Verdict → ℕ
+abbrev pub numbered : Verdict → ℕ
 numbered (Ok u) = 0
 numbered (Err r) = number_of r
 
@@ -73,12 +75,13 @@ in_place is_filed (x ∷ xs) e = go x.test (in_place is_filed xs w.1)
     go true ih = rw (ne_eqb (number_of x.why) 0 (λ z. omega (arith, number_above_0 x.why)), not-true (eqb (number_of x.why) 9) w.0)
     go false ih = ih
 
--- the rows before the last, which read neither the marks nor whether the call amends
+-- the rows before the last, which read neither the marks nor, by the large limits, whether the call amends
 abbrev rows_before : Table → Book → Filing → List Row
 rows_before t b f =
-    head_rows (sound b) (fit_row (accepted_table t) ∷ []) ++ figure_rows (ordinary_for t f) b.open_year f
+    head_rows (sound b) (fit_row (accepted_table t) ∷ [])
+    ++ figure_rows (ordinary_for t f) b.open_year (with_purpose Purpose.Amend f)
 
-number_of_lem :
+pub number_of_lem :
     (t : Table) (b : Book) (f : Filing)
     → refusal_in (posted t b (Call.File f)).answer ≡ numbered (first_refusal (rows_for t b (Call.File f)))
 unfolding posted done stored refusal_in
@@ -91,9 +94,9 @@ number_of_lem t b f = go (first_refusal (rows_for t b (Call.File f)))
 pub stands_in_place : (t : Table) (b : Book) (f : Filing) → StandsInPlaceOf9 t b f
 unfolding rows_for head_rows own_rows file_rows
 stands_in_place t b f =
-    number_of_lem t b (with_amends true f)
+    number_of_lem t b (with_purpose Purpose.Amend f)
     ∙ in_place (is_filed b (family_of f)) (rows_before t b f) refl
-    ∙ ap in_place_of9 (sym (number_of_lem t b (with_amends false f)))
+    ∙ ap in_place_of9 (sym (number_of_lem t b (with_purpose large_entry f)))
 
 -- ---- the last one counts
 -- a part stored over another: as if it alone had been stored
@@ -109,7 +112,7 @@ stored_again b c f y z h =
     rw (m, k, s, p)
 
 -- a family that is filed as the call would have it
-as_asked : (amends is_filed : Bool) → is_filed ≡ amends → first_refusal (filed_row amends is_filed ∷ []) ≡ Ok tt
+as_asked : (amending is_filed : Bool) → is_filed ≡ amending → first_refusal (filed_row amending is_filed ∷ []) ≡ Ok tt
 as_asked true is_filed e = rw e
 as_asked false is_filed e = rw e
 
@@ -123,7 +126,7 @@ module _ (t u : Table) (b : Book) (f g : Filing) (z : Sized b) (h : Fileable t b
 
   -- g in f's place, and after it
   abbrev there : Filing
-  there = with_amends f.amends g
+  there = with_purpose (in_large_entry f.purpose) g
 
   same_cell : filing_cell g ≡ filing_cell f
   same_cell = ap (λ (k : Family). cell k.maker k.set) (sym same)
@@ -138,31 +141,45 @@ module _ (t u : Table) (b : Book) (f g : Filing) (z : Sized b) (h : Fileable t b
       mark_here b (filing_cell f) f.family (part_for t f) z (omega (arith, h.maker, h.set)) h.family
       (filing_cell g) g.family (same_cell, same_number)
 
-  filed_before : is_filed b (family_of g) ≡ f.amends
+  filed_before : is_filed b (family_of g) ≡ amends f.purpose
   filed_before = rw (same_cell, same_number) h.mark
 
+  there_rows :
+      first_refusal (rows_before u b g ++ filed_row (amends f.purpose) (is_filed b (family_of g)) ∷ [])
+      ≡ first_refusal (rows_for u b (Call.File there))
+  unfolding rows_for head_rows own_rows file_rows
+  there_rows = go f.purpose
+    where
+      go :
+          (p : Purpose)
+          → first_refusal (rows_before u b g ++ filed_row (amends p) (is_filed b (family_of g)) ∷ [])
+          ≡ first_refusal (rows_for u b (Call.File (with_purpose (in_large_entry p) g)))
+      go (Purpose.File l) = refl
+      go Purpose.Amend = refl
+
   same_verdict :
-      first_refusal (rows_for u after (Call.File (with_amends true g))) ≡ first_refusal (rows_for u b (Call.File there))
+      first_refusal (rows_for u after (Call.File (with_purpose Purpose.Amend g))) ≡ first_refusal (rows_for u b (Call.File there))
   unfolding done stored rows_for head_rows own_rows file_rows
   same_verdict =
       ap
       (λ (s : Bool). first_refusal
-      (head_rows s (fit_row (accepted_table u) ∷ []) ++ file_rows (ordinary_for u g) b.open_year after.marks (with_amends true g)))
+      (head_rows s (fit_row (accepted_table u) ∷ []) ++ file_rows (ordinary_for u g) b.open_year after.marks (with_purpose Purpose.Amend g)))
       (still_sound t b f z h)
-      ∙ same_after (rows_before u b g) (filed_row true (is_filed after (family_of g)) ∷ []) (filed_row f.amends (is_filed b (family_of g)) ∷ [])
-      (as_asked true (is_filed after (family_of g)) filed_after ∙ sym (as_asked f.amends (is_filed b (family_of g)) filed_before))
+      ∙ same_after (rows_before u b g) (filed_row true (is_filed after (family_of g)) ∷ []) (filed_row (amends f.purpose) (is_filed b (family_of g)) ∷ [])
+      (as_asked true (is_filed after (family_of g)) filed_after ∙ sym (as_asked (amends f.purpose) (is_filed b (family_of g)) filed_before))
+      ∙ there_rows
 
-  same_done : done u after (Call.File (with_amends true g)) ≡ done u b (Call.File there)
+  same_done : done u after (Call.File (with_purpose Purpose.Amend g)) ≡ done u b (Call.File there)
   unfolding done part_beside
   same_done =
       rw (same_cell, same_number)
       (stored_again b (filing_cell f) f.family (part_for t f) (part_for u g) (omega (arith, h.maker, h.set, z.marks)))
 
-  in_its_place_lem : SameAs (posted u after (Call.File (with_amends true g))) (posted u b (Call.File there))
+  in_its_place_lem : SameAs (posted u after (Call.File (with_purpose Purpose.Amend g))) (posted u b (Call.File there))
   unfolding posted is_accepted
   in_its_place_lem =
       subst
-      (λ (v : Verdict). SameAs (outcome v after (done u after (Call.File (with_amends true g)))) (posted u b (Call.File there)))
+      (λ (v : Verdict). SameAs (outcome v after (done u after (Call.File (with_purpose Purpose.Amend g)))) (posted u b (Call.File there)))
       (sym same_verdict)
       (alike SameAs (first_refusal (rows_for u b (Call.File there))) _ _ _ _ (λ r. (refl, λ a. absurd (true≢false (sym a))))
       (ap (λ (p : Posted). p.answer) same_done, λ a. ap (λ (p : Posted). p.book) same_done))
@@ -173,7 +190,7 @@ last_counts t u b f g z a same =
     let w =
     by_verdict t b (Call.File f)
     (λ p. is_accepted p.answer ≡ true
-    → SameAs (posted u p.book (Call.File (with_amends true g))) (posted u b (Call.File (with_amends f.amends g))))
+    → SameAs (posted u p.book (Call.File (with_purpose Purpose.Amend g))) (posted u b (Call.File (with_purpose (in_large_entry f.purpose) g))))
     (λ r d. absurd (true≢false (sym d))) (λ s e d. in_its_place_lem t u b f g z (fileable t b f s e) same) a
     in
     record { answer = w.0; book = w.1 }

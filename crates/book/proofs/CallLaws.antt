@@ -5,6 +5,7 @@ use mathlib.Core.List.{List, [], ◌∷◌}
 use mathlib.Core.Path.{◌≡◌, refl}
 use lib.Dec.{eqb}
 use Rattle.figuring.specs.Tables.{Table}
+use Rattle.book.specs.Limits.{amends}
 use Rattle.book.specs.Soundness.{sound}
 use Rattle.book.specs.Refusals.{Row, number_of, first_refusal}
 use Rattle.book.specs.Rules.{head_rows, table_rows, own_rows, rows_for, filed_row, mark_row, file_rows, close_rows, trade_rows, apply_rows, retire_rows, cover_rows, CheckingOrder}
@@ -38,9 +39,9 @@ none_gives n (x ∷ xs) = not (eqb (number_of x.why) n) && none_gives n xs
 -- a filing's last row gives 9 or 18
 pub filed_gives_not :
     (n : ℕ) → not (eqb 9 n) ≡ true → not (eqb 18 n) ≡ true → (b : Book) (f : Filing) → none_gives n (mark_row b.marks f ∷ []) ≡ true
-filed_gives_not n p q b f = go f.amends _
+filed_gives_not n p q b f = go (amends f.purpose) _
   where
-    go : (amends is_filed : Bool) → none_gives n (filed_row amends is_filed ∷ []) ≡ true
+    go : (amending is_filed : Bool) → none_gives n (filed_row amending is_filed ∷ []) ≡ true
     go true is_filed = rw q
     go false is_filed = rw p
 

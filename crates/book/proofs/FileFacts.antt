@@ -1,9 +1,9 @@
 -- What an accepted filing or amendment says.
-use mathlib.Core.Bool.{Bool, true, false, false≢true}
-use mathlib.Core.Path.{◌≡◌, ap}
+use mathlib.Core.Bool.{Bool, true, false, false≢true, not, ◌||◌}
+use mathlib.Core.Path.{◌≡◌, ap, refl}
 use Prim.Native.Nat.{ℕ, ◌≤◌, ◌<◌}
 use borrow.Author.Tests.{leb-false, eqb-true, not-false}
-use lib.Dec.{eqb}
+use lib.Dec.{eqb, ltb, leb}
 use lib.ListN.{get_or}
 use Rattle.figuring.specs.Years.{last_year}
 use Rattle.figuring.specs.Standards.{is_absent}
@@ -13,6 +13,7 @@ use Rattle.figuring.specs.Parts.{within_limits, part_of, family_part}
 use Rattle.figuring.specs.declared.units.Part.{Part}
 use Rattle.figuring.proofs.PartLaws.{figured}
 use Rattle.book.specs.Sizes.{makers, sets, families}
+use Rattle.book.specs.Limits.{limits_of, amends}
 use Rattle.book.specs.Ledger.{marked}
 use Rattle.book.specs.Soundness.{sound}
 use Rattle.book.specs.Refusals.{first_refusal}
@@ -37,11 +38,16 @@ pub record Fileable (t : Table) (b : Book) (f : Filing) : Type 0 where
   pub family : f.family < families
   pub limits : within_limits f.fcl f.cf f.volume f.life ≡ true
   -- 9 and 18: a filing is of a family that is not filed, an amendment of one that is
-  pub mark : marked (get_or b.marks (filing_cell f) 0) f.family ≡ f.amends
+  pub mark : marked (get_or b.marks (filing_cell f) 0) f.family ≡ amends f.purpose
 
-as_amends : (amends is_filed : Bool) → (filed_row amends is_filed).test ≡ false → is_filed ≡ amends
+as_amends : (amending is_filed : Bool) → (filed_row amending is_filed).test ≡ false → is_filed ≡ amending
 as_amends true is_filed e = not-false is_filed e
 as_amends false is_filed e = e
+
+-- of a row whose test is one of two
+or_left : (a b : Bool) → (a || b) ≡ false → a ≡ false
+or_left true b e = e
+or_left false b e = refl
 
 pub fileable :
     (t : Table) (b : Book) (f : Filing) → sound b ≡ true
@@ -58,9 +64,13 @@ fileable t b f s e =
       upto = still_open b s (search);
       standard = search;
       edition = search;
-      family = leb-false families f.family (search);
-      limits = not-false (within_limits f.fcl f.cf f.volume f.life) (search);
-      mark = as_amends f.amends _ (search);
+      family =
+          leb-false families f.family
+          (or_left (leb families f.family) (ltb (limits_of f.purpose).number f.family) (search));
+      limits =
+          not-false (within_limits f.fcl f.cf f.volume f.life)
+          (or_left (not (within_limits f.fcl f.cf f.volume f.life)) (ltb (limits_of f.purpose).volume f.volume) (search));
+      mark = as_amends (amends f.purpose) _ (search);
     }
 
 pub accepted_filing :

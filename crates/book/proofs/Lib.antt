@@ -37,6 +37,7 @@ pub mod FiledAlone
 pub mod OneBook
 pub mod FilingOrder
 pub mod Amendments
+pub mod SmallMakers
 pub mod LastFigures
 pub mod OwnStandards
 pub mod Restated

@@ -1,8 +1,9 @@
--- Card 6, "Amended level": an amendment is a filing whose `amends` is set. Rules, Postings and Accounts have it; here the
+-- Card 6, "Amended level": an amendment is a filing whose purpose is to amend. Rules, Postings and Accounts have it; here the
 -- card's words stand by themselves, for any book. The proofs are in proofs/Amendments.antt and proofs/LastFigures.antt.
-use Rattle.std.specs.Prelude.{ℕ, ◌+◌, ◌*◌, true, false, cond, List, ◌∷◌, ◌++◌, ◌≡◌, eqb, get_or, set as store, Ok}
+use Rattle.std.specs.Prelude.{ℕ, ◌+◌, ◌*◌, true, cond, List, ◌∷◌, ◌++◌, ◌≡◌, eqb, get_or, set as store, Ok}
 use Rattle.figuring.specs.Tables.{Table}
-use Rattle.book.specs.Filings.{with_amends}
+use Rattle.book.specs.Filings.{with_purpose}
+use Rattle.book.specs.Limits.{large_entry, in_large_entry}
 use Rattle.book.specs.Sizes.{families}
 use Rattle.book.specs.Ledger.{Key, filed_in}
 use Rattle.book.specs.Refusals.{refusal_in}
@@ -16,15 +17,16 @@ use Rattle.book.specs.FilingOrder.{family_of}
 use Rattle.book.specs.declared.ledger.Book.{Book}
 use Rattle.book.specs.declared.kinds.Call.{Call}
 use Rattle.book.specs.declared.kinds.Filing.{Filing}
+use Rattle.book.specs.declared.kinds.Purpose.{Purpose}
 use Rattle.book.specs.declared.answers.Answer.{Answer}
 use Rattle.book.specs.declared.answers.Posted.{Posted}
 
--- the same fields, put to a book as a filing and as an amendment
+-- the same fields, put to a book as a filing of the large entry and as an amendment
 abbrev pub filed : Table → Book → Filing → Posted
-filed t b f = posted t b (Call.File (with_amends false f))
+filed t b f = posted t b (Call.File (with_purpose large_entry f))
 
 abbrev pub amended : Table → Book → Filing → Posted
-amended t b f = posted t b (Call.File (with_amends true f))
+amended t b f = posted t b (Call.File (with_purpose Purpose.Amend f))
 
 -- ---- what an accepted amendment does
 
@@ -55,12 +57,13 @@ StandsInPlaceOf9 t b f = refusal_in (amended t b f).answer ≡ in_place_of9 (ref
 
 -- In the book: after an accepted filing or amendment f, an amendment g of the same family is answered as it would be in
 -- f's place, and leaves the book that it would leave there, whatever tables t and u they are handed. So of a filing and
--- any number of amendments the last counts, as if it alone had been filed.
+-- any number of amendments the last counts, as if it alone had been filed. In f's place it is filed in the large entry,
+-- whatever pair f was under (card 10): an amendment is held to the large limits (docs/DECISIONS.md).
 abbrev pub after_it : Table → Table → Book → Filing → Filing → Posted
 after_it t u b f g = amended u (posted t b (Call.File f)).book g
 
 abbrev pub in_its_place : Table → Book → Filing → Filing → Posted
-in_its_place u b f g = posted u b (Call.File (with_amends f.amends g))
+in_its_place u b f g = posted u b (Call.File (with_purpose (in_large_entry f.purpose) g))
 
 pub record AsInItsPlace (t u : Table) (b : Book) (f g : Filing) : Type 0 where
   pub answer : (after_it t u b f g).answer ≡ (in_its_place u b f g).answer

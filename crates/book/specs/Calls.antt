@@ -1,5 +1,6 @@
 -- The calls by their figures, in the papers' order of their arguments.
-use Rattle.std.specs.Prelude.{ℕ, Bool, List, get_or}
+use Rattle.std.specs.Prelude.{ℕ, List, get_or}
+use Rattle.book.specs.declared.kinds.Purpose.{Purpose}
 use Rattle.book.specs.declared.kinds.Filing.{Filing}
 use Rattle.book.specs.declared.kinds.Trade.{Trade}
 use Rattle.book.specs.declared.kinds.Application.{Application}
@@ -9,11 +10,11 @@ use Rattle.book.specs.declared.kinds.Cover.{Cover}
 abbrev pub figure : List ℕ → ℕ → ℕ
 figure n i = get_or n i 0
 
--- Card 6: "An `(amend ..)` line takes a filing's fields"
-abbrev pub filing_of : Bool → List ℕ → Filing
-filing_of amends n =
+-- Card 6: "An `(amend ..)` line takes a filing's fields"; card 10: so do "lines led by `small` in place of `file`"
+abbrev pub filing_of : Purpose → List ℕ → Filing
+filing_of purpose n =
     record {
-      amends = amends;
+      purpose = purpose;
       maker = figure n 0;
       set = figure n 1;
       year = figure n 2;

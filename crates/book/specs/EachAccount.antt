@@ -1,15 +1,17 @@
 -- Each account by itself, on a history that a reader can add up by hand. Demand 3 holds the accounts together, as a
 -- sum: it would hold as well if a sale were entered under applied. Here each stands alone.
-use Rattle.std.specs.Prelude.{ℕ, ◌+◌, ◌*◌, Bool, true, false, List, [], ◌∷◌, ◌≡◌, replicate, set as store, pos}
+use Rattle.std.specs.Prelude.{ℕ, ◌+◌, ◌*◌, false, List, [], ◌∷◌, ◌≡◌, replicate, set as store, pos}
 use Rattle.figuring.specs.Tables.{Table, built_in}
 use Rattle.book.specs.Sizes.{cells, families, places, all_parts}
 use Rattle.book.specs.Ledger.{Key, key, cell, raise}
 use Rattle.book.specs.Accounts.{Accounts, Entry, as_accepted as acceptedWith, accounts_from, accounts_of}
 use Rattle.book.specs.Accounts.{bought, sold, applied, retired, covered}
 use Rattle.book.specs.Demand3.{opening_of}
+use Rattle.book.specs.Limits.{large_entry}
 use Rattle.book.specs.Marked.{filing_with}
 use Rattle.book.specs.declared.ledger.Book.{Book}
 use Rattle.book.specs.declared.kinds.Call.{Call}
+use Rattle.book.specs.declared.kinds.Purpose.{Purpose}
 
 -- with the built-in table
 abbrev pub as_accepted : Call → Entry
@@ -31,10 +33,10 @@ example =
     ∷ []
 
 -- heavy families with figures by which 1 g/hp-hr is 1 Mg
-abbrev pub heavy_call : Bool → ℕ → ℕ → ℕ → ℕ → ℕ → ℕ → Call
-heavy_call amends maker year vehicleUse edition family fcl =
+abbrev pub heavy_call : Purpose → ℕ → ℕ → ℕ → ℕ → ℕ → ℕ → Call
+heavy_call purpose maker year vehicleUse edition family fcl =
     Call.File (record {
-      amends = amends;
+      purpose = purpose;
       maker = maker;
       set = 3;
       year = year;
@@ -47,14 +49,14 @@ heavy_call amends maker year vehicleUse edition family fcl =
       life = 1;
     })
 
-abbrev pub heavy : Bool → ℕ → ℕ → ℕ → ℕ → ℕ → ℕ → Entry
-heavy amends maker year vehicleUse edition family fcl =
-    as_accepted (heavy_call amends maker year vehicleUse edition family fcl)
+abbrev pub heavy : Purpose → ℕ → ℕ → ℕ → ℕ → ℕ → ℕ → Entry
+heavy purpose maker year vehicleUse edition family fcl =
+    as_accepted (heavy_call purpose maker year vehicleUse edition family fcl)
 
 -- Card 5: families of 2025 that are alike but for maker, use and edition, each 1 g/hp-hr below the ordinary standard;
 -- and the close
 abbrev pub heavy_with : ℕ → ℕ → ℕ → ℕ → Entry
-heavy_with maker vehicleUse edition fcl = heavy false maker 2025 vehicleUse edition 0 fcl
+heavy_with maker vehicleUse edition fcl = heavy large_entry maker 2025 vehicleUse edition 0 fcl
 
 abbrev pub editions : List Entry
 editions =
@@ -67,10 +69,10 @@ editions =
 
 -- Card 6: vocational families, whose standard in 2025 and 2026 is 506, filed and amended
 abbrev pub files : ℕ → ℕ → ℕ → ℕ → Entry
-files maker year family fcl = heavy false maker year 0 0 family fcl
+files maker year family fcl = heavy large_entry maker year 0 0 family fcl
 
 abbrev pub amends : ℕ → ℕ → ℕ → ℕ → Entry
-amends maker year family fcl = heavy true maker year 0 0 family fcl
+amends maker year family fcl = heavy Purpose.Amend maker year 0 0 family fcl
 
 abbrev pub amendments : List Entry
 amendments =
@@ -104,12 +106,12 @@ office = replicate 24 (0 ∷ 0 ∷ 0 ∷ 510 ∷ 0 ∷ 0 ∷ [])
 
 abbrev pub own_tables : List Entry
 own_tables =
-    acceptedWith office (heavy_call false 0 2025 0 0 0 505)
-    ∷ acceptedWith built_in (heavy_call false 1 2025 0 0 0 505)
-    ∷ acceptedWith office (heavy_call false 2 2025 0 0 0 505)
-    ∷ acceptedWith built_in (heavy_call true 2 2025 0 0 0 503)
-    ∷ acceptedWith built_in (heavy_call false 3 2025 0 0 0 505)
-    ∷ acceptedWith office (heavy_call true 3 2025 0 0 0 503)
+    acceptedWith office (heavy_call large_entry 0 2025 0 0 0 505)
+    ∷ acceptedWith built_in (heavy_call large_entry 1 2025 0 0 0 505)
+    ∷ acceptedWith office (heavy_call large_entry 2 2025 0 0 0 505)
+    ∷ acceptedWith built_in (heavy_call Purpose.Amend 2 2025 0 0 0 503)
+    ∷ acceptedWith built_in (heavy_call large_entry 3 2025 0 0 0 505)
+    ∷ acceptedWith office (heavy_call Purpose.Amend 3 2025 0 0 0 503)
     ∷ as_accepted (Call.Close 2025)
     ∷ []
 

@@ -1,11 +1,12 @@
 -- A filing with one of its fields changed, and all else as it is. A record is written out whole: here, for all of them.
-use Rattle.std.specs.Prelude.{ℕ, Bool}
+use Rattle.std.specs.Prelude.{ℕ}
+use Rattle.book.specs.declared.kinds.Purpose.{Purpose}
 use Rattle.book.specs.declared.kinds.Filing.{Filing}
 
-abbrev changed : Bool → ℕ → ℕ → Filing → Filing
-changed amends edition cf f =
+abbrev changed : Purpose → ℕ → ℕ → Filing → Filing
+changed purpose edition cf f =
     record {
-      amends = amends;
+      purpose = purpose;
       maker = f.maker;
       set = f.set;
       year = f.year;
@@ -18,12 +19,11 @@ changed amends edition cf f =
       life = f.life;
     }
 
--- as an amendment, or as a filing
-abbrev pub with_amends : Bool → Filing → Filing
-with_amends amends f = changed amends f.edition f.cf f
+abbrev pub with_purpose : Purpose → Filing → Filing
+with_purpose purpose f = changed purpose f.edition f.cf f
 
 abbrev pub with_edition : ℕ → Filing → Filing
-with_edition edition f = changed f.amends edition f.cf f
+with_edition edition f = changed f.purpose edition f.cf f
 
 abbrev pub with_cf : ℕ → Filing → Filing
-with_cf cf f = changed f.amends f.edition cf f
+with_cf cf f = changed f.purpose f.edition cf f

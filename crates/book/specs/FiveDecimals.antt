@@ -34,7 +34,7 @@ on_cf g (Call.Retire p) = Call.Retire p
 on_cf g (Call.Cover c) = Call.Cover c
 
 -- ---- the rules with document 01's figures: those of now, but for the bound of a part, the limit of CF and the unit of
--- a close. A cover, which came after the card (card 9), is as it is now
+-- a close. A cover and the pair of limits, which came after the card (cards 9 and 10), are as they are now
 
 -- "every part within ±3.84 × 10^15", which is less than now
 abbrev pub old_sound : Book → Bool

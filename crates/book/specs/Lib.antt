@@ -1,4 +1,5 @@
 pub mod Sizes
+pub mod Limits
 pub mod Filings
 pub mod Below
 pub mod Ledger
@@ -21,6 +22,7 @@ pub mod FilingOrder
 pub mod FiveDecimals
 pub mod Editions
 pub mod Amendments
+pub mod SmallMakers
 pub mod OwnStandards
 pub mod OldestFirst
 pub mod Listing

@@ -1,11 +1,12 @@
 -- Document 01, "Marked figures", P1 to P12, of the rules together, with the built-in table.
-use Rattle.std.specs.Prelude.{ℕ, ◌≡◌, true, false, pos}
+use Rattle.std.specs.Prelude.{ℕ, ◌≡◌, true, pos}
 use Rattle.figuring.specs.Tables.{built_in}
 use Rattle.figuring.specs.Marked.{FiguringMarked}
 use Rattle.book.specs.Refusals.{refusal_in}
 use Rattle.book.specs.Ledger.{key, figure_at}
 use Rattle.book.specs.Postings.{empty_in, fresh_book, stored}
 use Rattle.book.specs.Rules.{posted}
+use Rattle.book.specs.Limits.{large_entry}
 use Rattle.book.specs.Demand3.{is_accepted}
 use Rattle.book.specs.declared.ledger.Book.{Book}
 use Rattle.book.specs.declared.kinds.Call.{Call}
@@ -14,7 +15,7 @@ use Rattle.book.specs.declared.kinds.Call.{Call}
 abbrev pub filing_with : ℕ → ℕ → Call
 filing_with family fcl =
     Call.File (record {
-      amends = false;
+      purpose = large_entry;
       maker = 0;
       set = 3;
       year = 2014;

@@ -45,7 +45,7 @@ WithinBound t b f =
 -- ---- with the built-in table all is as before
 
 -- the rules as they were before this card: a call is handed no table, there is no 20, and the ordinary standard is the
--- printed one. A cover, which came after it (card 9), is as it is now
+-- printed one. A cover and the pair of limits, which came after it (cards 9 and 10), are as they are now
 abbrev pub printed_of : Filing → Standard
 printed_of f = standard_for f.set f.vehicle_use f.year
 

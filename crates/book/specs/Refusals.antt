@@ -24,9 +24,9 @@ number_of UnknownSet = 4
 number_of YearNotOpen = 5
 -- There is no standard for this set, use and year.
 number_of NoStandard = 6
--- The family number is above 63.
+-- The family number is above 63, or above the limit that the filing is under (card 10).
 number_of UnknownFamily = 7
--- FCL, CF, volume or life is outside its limits.
+-- FCL, CF, volume or life is outside its limits, the volume above that of the filing (card 10) among them.
 number_of OutOfLimits = 8
 -- The family number is already filed in this cell this year.
 number_of AlreadyFiled = 9

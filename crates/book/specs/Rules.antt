@@ -3,12 +3,13 @@
 -- outcome. `CheckingOrder` has the rows by the papers' numbers. Card 7 hands a call a table of standards beside the book:
 -- filings and amendments read it, and no other call.
 -- "A call skips the entries that don't concern it." Entries 3 (in a trade), 5 and 14 are two tests, so two rows.
-use Rattle.std.specs.Prelude.{ℕ, Bool, true, false, not, List, [], ◌∷◌, ◌++◌, ◌≡◌, ltb, leb, eqb, get_or, Ok, Err}
+use Rattle.std.specs.Prelude.{ℕ, Bool, true, false, not, List, [], ◌∷◌, ◌++◌, ◌≡◌, ◌||◌, ltb, leb, eqb, get_or, Ok, Err}
 use Rattle.figuring.specs.Standards.{Standard, is_absent}
 use Rattle.figuring.specs.Tables.{Table, accepted_table}
 use Rattle.figuring.specs.Editions.{no_edition}
 use Rattle.figuring.specs.Parts.{within_limits}
 use Rattle.book.specs.Sizes.{makers, sets, families, all_closed}
+use Rattle.book.specs.Limits.{limits_of, amends}
 use Rattle.book.specs.Ledger.{figure_at, marked, has_shortage}
 use Rattle.book.specs.Soundness.{sound}
 use Rattle.figuring.specs.Life.{live, open_short}
@@ -49,7 +50,9 @@ table_rows t (Call.Cover c) = []
 
 -- ---- each call's own rows, over what they read of the book and no more: Y is the open year
 
--- what a filing and an amendment are asked alike, beside an ordinary standard: of the book these read the open year alone
+-- what a filing and an amendment are asked alike, beside an ordinary standard: of the book these read the open year alone.
+-- 7 and 8 ask for document 01's limits and for the pair that the filing is under (card 10), so that a pair above document
+-- 01's limits counts as these
 abbrev pub figure_rows : Standard → ℕ → Filing → List Row
 figure_rows ordinary Y f =
     (leb makers f.maker ⇒ UnknownMaker)
@@ -58,8 +61,8 @@ figure_rows ordinary Y f =
     ∷ (eqb Y all_closed ⇒ YearNotOpen)
     ∷ (is_absent ordinary ⇒ NoStandard)
     ∷ (no_edition f.edition f.set f.year ⇒ NoEdition)
-    ∷ (leb families f.family ⇒ UnknownFamily)
-    ∷ (not (within_limits f.fcl f.cf f.volume f.life) ⇒ OutOfLimits)
+    ∷ (leb families f.family || ltb (limits_of f.purpose).number f.family ⇒ UnknownFamily)
+    ∷ (not (within_limits f.fcl f.cf f.volume f.life) || ltb (limits_of f.purpose).volume f.volume ⇒ OutOfLimits)
     ∷ []
 
 -- then 9 of a filing; of an amendment 18, which "stands in place of 9"
@@ -69,7 +72,7 @@ filed_row true is_filed = not is_filed ⇒ NotFiled
 
 -- whether the family is filed, by the marks
 abbrev pub mark_row : List ℕ → Filing → Row
-mark_row marks f = filed_row f.amends (marked (get_or marks (filing_cell f) 0) f.family)
+mark_row marks f = filed_row (amends f.purpose) (marked (get_or marks (filing_cell f) 0) f.family)
 
 unfoldable pub file_rows : Standard → ℕ → List ℕ → Filing → List Row
 file_rows ordinary Y marks f = figure_rows ordinary Y f ++ mark_row marks f ∷ []
@@ -170,13 +173,18 @@ abbrev pub numbers : List Row → List ℕ
 numbers [] = []
 numbers (x ∷ xs) = number_of x.why ∷ numbers xs
 
+-- a filing's
+abbrev pub filing_order : List ℕ
+filing_order = 2 ∷ 20 ∷ 3 ∷ 4 ∷ 5 ∷ 5 ∷ 6 ∷ 17 ∷ 7 ∷ 8 ∷ 9 ∷ []
+
 pub record CheckingOrder : Type 0 where
   pub file :
       (t : Table) (b : Book) (f : Filing)
-      → f.amends ≡ false → numbers (rows_for t b (Call.File f)) ≡ 2 ∷ 20 ∷ 3 ∷ 4 ∷ 5 ∷ 5 ∷ 6 ∷ 17 ∷ 7 ∷ 8 ∷ 9 ∷ []
+      → amends f.purpose ≡ false → numbers (rows_for t b (Call.File f)) ≡ filing_order
   pub amend :
       (t : Table) (b : Book) (f : Filing)
-      → f.amends ≡ true → numbers (rows_for t b (Call.File f)) ≡ 2 ∷ 20 ∷ 3 ∷ 4 ∷ 5 ∷ 5 ∷ 6 ∷ 17 ∷ 7 ∷ 8 ∷ 18 ∷ []
+      → amends f.purpose ≡ true
+      → numbers (rows_for t b (Call.File f)) ≡ 2 ∷ 20 ∷ 3 ∷ 4 ∷ 5 ∷ 5 ∷ 6 ∷ 17 ∷ 7 ∷ 8 ∷ 18 ∷ []
   pub close : (t : Table) (b : Book) (y : ℕ) → numbers (rows_for t b (Call.Close y)) ≡ 2 ∷ 5 ∷ 5 ∷ []
   pub trade :
       (t : Table) (b : Book) (x : Trade)

@@ -14,6 +14,8 @@ ghost use Rattle.book.specs.FilingOrder.{FilingOrder, EachAlone, Lodged, SaysNoL
 ghost use Rattle.book.specs.FiveDecimals.{SameSessions, SoundParts};
 ghost use Rattle.book.specs.Editions.{ElseTheSame, Reaches6, SixThenSeventeen, UnderNamed};
 ghost use Rattle.book.specs.Amendments.{Amended, CountsLast, LastCounts, StandsInPlaceOf9};
+ghost use Rattle.book.specs.Limits.{large_limits, small_limits};
+ghost use Rattle.book.specs.SmallMakers.{UnderAnyPair, CountsAsLarge, TwoEntries};
 ghost use Rattle.book.specs.OwnStandards.{AsBefore, ReadNoTable, Twenty, WithinBound};
 ghost use Rattle.book.specs.OldestFirst.{AcceptedExactly, AsInBook, CountsAsMade, NoneBetter, OldestFirst, OwnYear};
 ghost use Rattle.book.specs.Marked.{MarkedFigures};
@@ -22,6 +24,9 @@ ghost use Rattle.book.specs.declared.ledger.Book.{Book};
 ghost use Rattle.book.specs.declared.kinds.Call.{Call};
 ghost use Rattle.book.specs.declared.kinds.Cover.{Cover};
 ghost use Rattle.book.specs.declared.kinds.Filing.{Filing};
+ghost use Rattle.book.specs.declared.kinds.Limits.{Limits};
+
+use crate::kinds::Limits;
 
 // Demand 1: its result or one numbered refusal, which leaves the book as it was.
 pub fn answers_or_refuses() -> bool
@@ -148,6 +153,23 @@ pub fn amended() -> bool
 pub fn last_counts() -> bool
     ensures { (result ≡ true) × ((t u : Table) (b : Book) (f g : Filing) → LastCounts t u b f g)
         × ((o : Opening) (es : List Entry) (k : Key) (family : ℕ) → CountsLast o es k family) }
+{
+    true
+}
+
+// The two pairs of limits that the code names are those of the rules.
+pub fn entries() -> (Limits, Limits)
+    ensures { result ≡ (large_limits, small_limits) }
+{
+    (Limits::LARGE, Limits::SMALL)
+}
+
+// Card 10: a filing under any pair of limits gets what the large entry gives, but 7 or 8 over its limits, in their places;
+// the two entries are two of these pairs.
+pub fn small_makers() -> bool
+    ensures { (result ≡ true) × ((t : Table) (b : Book) (f : Filing) (l : Limits) → UnderAnyPair t b f l)
+        × ((t : Table) (b : Book) (f : Filing) (l : Limits) → CountsAsLarge t b f l)
+        × ((t : Table) (b : Book) (f : Filing) → TwoEntries t b f) }
 {
     true
 }

@@ -73,15 +73,16 @@ fn file_verdict(book: &Book, table: &Table, f: Filing) -> Result<(), Refusal>
     if no_edition(f.edition, f.set, f.year) {
         return Err(Refusal::NoEdition);
     }
-    if f.family >= FAMILIES {
+    let limits = f.purpose.limits();
+    if f.family >= FAMILIES || limits.number < f.family {
         return Err(Refusal::UnknownFamily);
     }
-    if !within_limits(f.fcl, f.cf, f.volume, f.life) {
+    if !within_limits(f.fcl, f.cf, f.volume, f.life) || limits.volume < f.volume {
         return Err(Refusal::OutOfLimits);
     }
     let family = Family::at(f.maker, f.set, f.family);
     filed_verdict(
-        f.amends,
+        f.purpose.amends(),
         is_marked(book.marks[family.cell.index()], family.number),
     )
 }

@@ -19,7 +19,7 @@ use crate::retiring::retire;
 use crate::trading::trade;
 use figuring::tables::Table;
 
-// A filing, or an amendment where it amends.
+// A filing, under any pair of limits, or an amendment.
 #[tactic(auto, using(crate::proofs::RefusalLaws::stored_so))]
 pub fn file_in(book: &mut Book, table: Table, f: Filing) -> Result<Answer, Refusal>
     ensures { answered result book.new ≡ posted table book.old (Call.File f) }

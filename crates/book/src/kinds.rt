@@ -2,13 +2,65 @@
 // in the papers' order of the arguments.
 ghost use Rattle.std.specs.Prelude.{◌≡◌};
 ghost use Rattle.book.specs.Calls.{filing_of, trade_of, application_of, retirement_of, cover_of};
+ghost use Rattle.book.specs.Limits.{limits_of, amends};
 
-// A filing; or, where it amends, an amendment, which has the same fields (card 6).
-// `amends` is a flag by the project's rule that calls which differ in a figure are one call, with one struct, one list of
-// rows and one step: one row alone tells the two apart.
+use crate::ledger::FAMILIES;
+use figuring::parts::VOLUME_MOST;
+
+// The largest family number and the largest volume of a filing (card 10), any two figures. A number above 63 and a volume
+// above 100,000 are refused whatever the pair, so a limit above these counts as these.
+#[derive(Clone, Copy)]
+pub struct Limits {
+    pub number: u64,
+    pub volume: u64,
+}
+
+impl Limits {
+    // Document 01's limits, those of the large entry.
+    pub const LARGE: Limits = Limits {
+        number: FAMILIES - 1,
+        volume: VOLUME_MOST,
+    };
+    // Those of the small makers' entry.
+    pub const SMALL: Limits = Limits {
+        number: 15,
+        volume: 5_000,
+    };
+}
+
+// What a filing does with its family: it files it, under a pair of limits, or amends it, under the large ones.
+#[derive(Clone, Copy)]
+pub enum Purpose {
+    File(Limits),
+    Amend,
+}
+
+impl Purpose {
+    pub fn limits(self) -> Limits
+        ensures { result ≡ limits_of self }
+    {
+        match self {
+            Purpose::File(limits) => limits,
+            Purpose::Amend => Limits::LARGE,
+        }
+    }
+
+    pub fn amends(self) -> bool
+        ensures { result ≡ amends self }
+    {
+        match self {
+            Purpose::File(_) => false,
+            Purpose::Amend => true,
+        }
+    }
+}
+
+// A filing, under any pair of limits (card 10); or an amendment, which has the same fields (card 6).
+// They are one struct by the project's rule that calls which differ in a figure are one call, with one list of rows and one
+// step: the rows of limits and the last row alone tell them apart.
 #[derive(Clone, Copy)]
 pub struct Filing {
-    pub amends: bool,
+    pub purpose: Purpose,
     pub maker: u64,
     pub set: u64,
     pub year: u64,
@@ -22,9 +74,9 @@ pub struct Filing {
 }
 
 impl Filing {
-    // The filing of ten figures, or the amendment. Which of the two is no figure: so this is no `From`.
-    pub fn of(amends: bool, figures: [u64; 10]) -> Filing
-        ensures { result ≡ filing_of amends figures }
+    // The filing of ten figures, or the amendment. Its purpose is none of them: so this is no `From`.
+    pub fn of(purpose: Purpose, figures: [u64; 10]) -> Filing
+        ensures { result ≡ filing_of purpose figures }
     {
         let [
             maker,
@@ -39,7 +91,7 @@ impl Filing {
             life,
         ] = figures;
         Filing {
-            amends,
+            purpose,
             maker,
             set,
             year,

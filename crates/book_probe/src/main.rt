@@ -1,5 +1,5 @@
 // Puts calls to books that no session reaches, whatever their figures, to hold a second implementation against the
-// calls and soundness. Standard input holds records of 3,772 words, each a book, a call and a table of standards; for
+// calls and soundness. Standard input holds records of 3,774 words, each a book, a call and a table of standards; for
 // each record it writes 3,621 words: whether the book is sound, the answer, and the book after the call. A word is 64
 // bits, low byte first. In the place of a call a record may name a number of bytes that follow it: they are read as the
 // text of a book, and the book is written into them (texts.rt).

@@ -4,7 +4,7 @@ ghost use Rattle.std.specs.Prelude.{◌<◌, ◌≤◌, length};
 
 use crate::words::{Word, numbers, put_words};
 use book::answers::{Answer, Refusal};
-use book::kinds::{Application, Call, Cover, Filing, Retirement, Trade};
+use book::kinds::{Application, Call, Cover, Filing, Limits, Purpose, Retirement, Trade};
 use book::ledger;
 use book::ledger::Book;
 use book::posting::post;
@@ -23,14 +23,14 @@ const SHORTAGES: usize = LOTS + ledger::PLACES;
 
 const BOOK: usize = SHORTAGES + ledger::PLACES;
 
-// A call's kind, after the book; then its ten arguments, in document 01's order. The kind is a number, and a refusal's is
-// 0 where there is none: so the second implementation writes and reads them.
+// A call's kind, after the book; then its twelve arguments, in document 01's order, a filing's pair of limits last. The kind is
+// a number, and a refusal's is 0 where there is none: so the second implementation writes and reads them.
 const KIND: usize = BOOK;
 
 const ARGUMENTS: usize = KIND + 1;
 
 // The table that the call is handed, row by row.
-const TABLE: usize = ARGUMENTS + 10;
+const TABLE: usize = ARGUMENTS + 12;
 
 pub(crate) const RECORD: usize = TABLE + COLUMNS * YEARS;
 
@@ -96,16 +96,18 @@ fn table_of(input: &Record) -> Table {
 pub(crate) fn asked_of(input: &Record) -> Option<Asked> {
     let kind = u64::from_le_bytes(input[KIND]);
     let arguments: [u64; 10] = numbers(input, ARGUMENTS, u64::from_le_bytes);
+    let [number, volume]: [u64; 2] = numbers(input, ARGUMENTS + 10, u64::from_le_bytes);
     let [a, b, c, d, e, ..] = arguments;
     let call = match kind {
-        0 => Call::File(Filing::of(false, arguments)),
+        0 => Call::File(Filing::of(Purpose::File(Limits::LARGE), arguments)),
         1 => Call::Close(a),
         2 => Call::Trade(Trade::from([a, b, c, d, e])),
         3 => Call::Apply(Application::from([a, b, c, d, e])),
         4 => Call::Retire(Retirement::from([a, b, c, d])),
-        5 => Call::File(Filing::of(true, arguments)),
+        5 => Call::File(Filing::of(Purpose::Amend, arguments)),
         6 => return Some(Asked::Text(a)),
         7 => Call::Cover(Cover::from([a, b])),
+        8 => Call::File(Filing::of(Purpose::File(Limits { number, volume }), arguments)),
         _ => return None,
     };
     Some(Asked::Post(call))

@@ -30,7 +30,7 @@ use Rattle.text.specs.Desk.{line_feed}
 use Rattle.text.specs.Lines.{lines_of}
 use Rattle.text.specs.Listing.{listing}
 use Rattle.text.specs.Program.{terminal}
-use Rattle.text.specs.Rendered.{Small}
+use Rattle.text.specs.Rendered.{FewDigits}
 use Rattle.shown.specs.Calls.{answers_of, calls, answers, postings, final_book}
 use Rattle.shown.specs.Statement.{accounts_by, Item, lot, short, items, item_figures, item_lines, statement}
 use Rattle.shown.specs.Journal.{journal_of, journal}
@@ -123,7 +123,7 @@ module _ (t : Table) (b : Book) (input : List ℕ) where
     says = each_says A exact
 
     -- a balance of a sound book has at most 12 digits
-    small : (x : Item) → Says A x → Small most_digits (item_figures x)
+    small : (x : Item) → Says A x → FewDigits most_digits (item_figures x)
     small (lot k n) h =
         let w = sound_is (final_book t b input) is_sound in
         let i = h.1.0 in

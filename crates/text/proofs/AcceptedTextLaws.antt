@@ -20,7 +20,7 @@ use Rattle.text.specs.Pattern.{fit}
 use Rattle.text.specs.Line.{figure}
 use Rattle.text.specs.Desk.{line_feed}
 use Rattle.text.specs.Lines.{lines_of}
-use Rattle.text.specs.Rendered.{Small}
+use Rattle.text.specs.Rendered.{FewDigits}
 use Rattle.text.specs.Entries.{entries, in_book, rank, all_entries, enter, empty_at}
 use Rattle.text.specs.BookText.{entry_figures, entry_lines, open_form, open_line, book_text}
 use Rattle.text.specs.BookReading.{book_digits, only_if, entry_of, entered, book_in, all_ended}
@@ -33,7 +33,7 @@ use Rattle.text.proofs.EntryLaws.{Neat, empty_neat, empty_look, stores, entries_
 
 -- an entry of the book whose figures a text can hold
 abbrev pub Fine : Entry → Type 0
-Fine e = Inside e × Small book_digits (entry_figures e)
+Fine e = Inside e × FewDigits book_digits (entry_figures e)
 
 pub only_inside : (least : ℕ) (es : List Entry) → Rising Fine all_entries least es → Rising Inside all_entries least es
 only_inside least es h = rising_map (λ e i. i.0) all_entries least es h
@@ -148,7 +148,7 @@ empty_bounded y =
     }
 
 -- the fourth figure
-low_part : (m s n : ℕ) (z : ℤ) → Small book_digits (entry_figures (Entry.Family m s n z)) → Lowℤ z
+low_part : (m s n : ℕ) (z : ℤ) → FewDigits book_digits (entry_figures (Entry.Family m s n z)) → Lowℤ z
 low_part m s n (pos z) h = h.1.1.1.0
 low_part m s n (negsuc z) h = h.1.1.1.0
 

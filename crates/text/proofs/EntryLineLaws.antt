@@ -15,7 +15,7 @@ use Rattle.text.specs.declared.entries.Entry.{Entry}
 use Rattle.text.specs.Pattern.{fit, filled, hashes}
 use Rattle.text.specs.Line.{figure}
 use Rattle.text.specs.Lines.{OneLine}
-use Rattle.text.specs.Rendered.{Small}
+use Rattle.text.specs.Rendered.{FewDigits}
 use Rattle.text.specs.BookText.{EntryForm, family, family_below, lot, short, entry_forms, form_for, entry_figures}
 use Rattle.text.specs.BookText.{entry_line, open_form, open_line}
 use Rattle.text.specs.BookReading.{book_digits, only_if, entry_by, first_entry, entry_of}
@@ -88,7 +88,7 @@ made f ns e g l =
 pub record IsLine (s : List ℕ) (e : Entry) : Type 0 where
   pub line : s ≡ entry_line e
   pub above : AboveZero e
-  pub small : Small book_digits (entry_figures e)
+  pub small : FewDigits book_digits (entry_figures e)
 
 first_is : (fs : List EntryForm) → AllAgain fs → (s : List ℕ) (e : Entry) → first_entry fs s ≡ Some e → IsLine s e
 first_is [] a s e q = no_some e q
@@ -127,7 +127,7 @@ all_apart (f ∷ fs) q = apart f.pattern q && all_apart fs q
 chosen :
     (gs : List EntryForm) (f : EntryForm) (fs : List EntryForm) (ns : List ℕ)
     → all_apart gs f.pattern ≡ true
-    → Small book_digits ns
+    → FewDigits book_digits ns
     → f.least ≤ figure ns 3
     → fit book_digits f.pattern (filled f.pattern ns) ≡ Some ns
     → first_entry (gs ++ f ∷ fs) (filled f.pattern ns) ≡ Some (f.entry ns)
@@ -143,7 +143,7 @@ read_back :
     → all_apart gs f.pattern ≡ true
     → separate f.pattern ≡ true
     → length ns ≡ hashes f.pattern
-    → Small book_digits ns
+    → FewDigits book_digits ns
     → f.least ≤ figure ns 3
     → entry_forms ≡ gs ++ f ∷ fs
     → entry_of (filled f.pattern ns) ≡ Some (f.entry ns)
@@ -152,7 +152,7 @@ read_back gs f fs ns a p l h m e =
     ap (λ (x : List EntryForm). first_entry x (filled f.pattern ns)) e
     ∙ chosen gs f fs ns a h m (fills_fit book_digits (lit≤ tt) (lit≤ tt) f.pattern ns p l h)
 
-pub line_read : (e : Entry) → Small book_digits (entry_figures e) → AboveZero e → entry_of (entry_line e) ≡ Some e
+pub line_read : (e : Entry) → FewDigits book_digits (entry_figures e) → AboveZero e → entry_of (entry_line e) ≡ Some e
 unfolding hashes separate apart all_apart
 line_read (Entry.Family m s n (pos z)) h a =
     read_back [] family (family_below ∷ lot ∷ short ∷ []) (m ∷ s ∷ n ∷ z ∷ []) refl refl refl h (omega arith) refl
@@ -179,7 +179,7 @@ unfolding hashes
 open_is s ns e =
     let w = fit_fills book_digits (lit≤ tt) open_form s ns e in
     let l = sym (listed 1 ns w.count) in
-    let m : Small book_digits (get_or ns 0 0 ∷ []) = rw l at w.small in
+    let m : FewDigits book_digits (get_or ns 0 0 ∷ []) = rw l at w.small in
     (get_or ns 0 0, l, w.text ∙ ap (filled open_form) l, m.0)
 
 pub open_read : (y : ℕ) → y < 10 ^ book_digits → fit book_digits open_form (open_line y) ≡ Some (y ∷ [])

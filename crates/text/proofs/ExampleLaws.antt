@@ -36,7 +36,7 @@ run =
 pub fields : Fields
 unfolding line_of line_at fit number leading value worth text_of refusal_in values_in filled numeral_of
 fields =
-    record { file = refl; amend = refl; trade = refl; apply = refl; retire = refl; cover = refl; covered = refl }
+    record { file = refl; small = refl; amend = refl; trade = refl; apply = refl; retire = refl; cover = refl; covered = refl }
 
 pub edges : Edges
 unfolding line_of line_at fit number leading value worth lines_from

@@ -9,12 +9,15 @@ use lib.Dec.{ltb, lit≤}
 use lib.ListN.{length, get_or, drop}
 use borrow.Author.Tests.{le-ltb, ltb-false}
 use Rattle.figuring.proofs.BoolLaws.{both}
+use Rattle.book.specs.Limits.{small_limits}
+use Rattle.book.specs.declared.kinds.Limits.{Limits}
+use Rattle.book.specs.declared.kinds.Purpose.{Purpose}
 use Rattle.book.specs.declared.kinds.Call.{Call}
 use Rattle.book.specs.declared.kinds.Filing.{Filing}
 use Rattle.std.specs.Option.{option_or, option_map}
 use Rattle.text.specs.Pattern.{fit, filled, hashes}
 use Rattle.text.specs.Line.{Form, forms, first_form, line_at, line_of, longest_line, most_digits}
-use Rattle.text.specs.Rendered.{form_of, figures_in, rendered, Small, IsText, NoText, Reads}
+use Rattle.text.specs.Rendered.{form_of, same_limits, figures_in, HasLine, rendered, FewDigits, IsText, NoText, Reads}
 use Rattle.text.specs.Answers.{answer_to, posted_line, ByText}
 use Rattle.text.proofs.RenderLaws.{fit_fills, fills_fit, separate, apart, apart_unfit}
 
@@ -49,9 +52,13 @@ again : (ns : List ℕ) → map (read_back ns) forms ≡ map (given ns) forms
 unfolding hashes
 again ns = refl
 
+-- what reading a text by a form says of its call
+abbrev Accepted : List ℕ → Call → Type 0
+Accepted s c = (s ≡ rendered c) × FewDigits most_digits (figures_in c) × HasLine c
+
 accepted :
     (fs : List Form) → ((ns : List ℕ) → map (read_back ns) fs ≡ map (given ns) fs)
-    → (s : List ℕ) (c : Call) → first_form fs s ≡ Some c → (s ≡ rendered c) × Small most_digits (figures_in c)
+    → (s : List ℕ) (c : Call) → first_form fs s ≡ Some c → Accepted s c
 accepted [] a s c e = let z : ◌≡◌ {A = ℕ} 0 1 = cc in absurd (omega arith)
 accepted (f ∷ fs) a s c e =
     go (fit most_digits f.pattern s) refl e (accepted fs (λ ns. tail_same (a ns)) s c)
@@ -60,8 +67,8 @@ accepted (f ∷ fs) a s c e =
         (o : Option (List ℕ))
         → fit most_digits f.pattern s ≡ o
         → option_or (option_map f.call o) (first_form fs s) ≡ Some c
-        → (first_form fs s ≡ Some c → (s ≡ rendered c) × Small most_digits (figures_in c))
-        → (s ≡ rendered c) × Small most_digits (figures_in c)
+        → (first_form fs s ≡ Some c → Accepted s c)
+        → Accepted s c
     go None p q ih = ih q
     go (Some ns) p q ih =
         let w = fit_fills most_digits (lit≤ tt) f.pattern s ns p in
@@ -71,7 +78,7 @@ accepted (f ∷ fs) a s c e =
         let k : ◌≡◌ {A = Form × List ℕ} (form_of c, figures_in c) (f, ns) = rw (← d) (rw l at r) in
         let g : form_of c ≡ f = ap (λ (x : Form × List ℕ). x.0) k in
         let n : figures_in c ≡ ns = ap (λ (x : Form × List ℕ). x.1) k in
-        (rw (g, n) w.text, rw n w.small)
+        (rw (g, n) w.text, rw n w.small, rw (g, n) d)
 
 only : (s : List ℕ) (c : Call) → line_of s ≡ Some c → IsText s c
 unfolding line_of line_at
@@ -83,7 +90,7 @@ only s c e = go (ltb longest_line (length s)) refl e
     go true p q = let z : ◌≡◌ {A = ℕ} 0 1 = cc in absurd (omega arith)
     go false p q =
         let w = accepted forms again s c q in
-        record { text = w.0; short = ltb-false longest_line (length s) p; small = w.1 }
+        record { has_line = w.2; text = w.0; short = ltb-false longest_line (length s) p; digits = w.1 }
 
 -- ---- a call that is rendered is accepted
 -- a form stands at a place of a list
@@ -92,26 +99,32 @@ IsAt n [] f = ⊥
 IsAt zero (g ∷ gs) f = g ≡ f
 IsAt (suc n) (g ∷ gs) f = IsAt n gs f
 
--- what has to be shown of each call: its form's place among the forms, and that its figures make the call again
+-- what has to be shown of each call: its form's place among the forms, and that its figures are as many
 record Formed (c : Call) : Type 0 where
   place : ℕ
   is_there : IsAt place forms (form_of c)
   count : length (figures_in c) ≡ hashes (form_of c).pattern
-  made : (form_of c).call (figures_in c) ≡ c
 
-filed : (amends : Bool) (x : Filing) → x.amends ≡ amends → Formed (Call.File x)
+filed_within :
+    (is_small : Bool) (l : Limits) (x : Filing) → x.purpose ≡ Purpose.File l → same_limits l small_limits ≡ is_small
+    → Formed (Call.File x)
 unfolding hashes
-filed false x e = record { place = 0; is_there = rw e; count = rw e; made = rw e }
-filed true x e = record { place = 1; is_there = rw e; count = rw e; made = rw e }
+filed_within true l x e s = record { place = 1; is_there = rw (e, s); count = rw (e, s) }
+filed_within false l x e s = record { place = 0; is_there = rw (e, s); count = rw (e, s) }
+
+filed : (p : Purpose) (x : Filing) → x.purpose ≡ p → Formed (Call.File x)
+unfolding hashes
+filed (Purpose.File l) x e = filed_within (same_limits l small_limits) l x e refl
+filed Purpose.Amend x e = record { place = 2; is_there = rw e; count = rw e }
 
 formed : (c : Call) → Formed c
 unfolding hashes
-formed (Call.File x) = filed x.amends x refl
-formed (Call.Close x) = record { place = 2; is_there = refl; count = refl; made = refl }
-formed (Call.Trade x) = record { place = 3; is_there = refl; count = refl; made = refl }
-formed (Call.Apply x) = record { place = 4; is_there = refl; count = refl; made = refl }
-formed (Call.Retire x) = record { place = 5; is_there = refl; count = refl; made = refl }
-formed (Call.Cover x) = record { place = 6; is_there = refl; count = refl; made = refl }
+formed (Call.File x) = filed x.purpose x refl
+formed (Call.Close x) = record { place = 3; is_there = refl; count = refl }
+formed (Call.Trade x) = record { place = 4; is_there = refl; count = refl }
+formed (Call.Apply x) = record { place = 5; is_there = refl; count = refl }
+formed (Call.Retire x) = record { place = 6; is_there = refl; count = refl }
+formed (Call.Cover x) = record { place = 7; is_there = refl; count = refl }
 
 -- every form of a list passes a test
 unfoldable pub every : (Form → Bool) → List Form → Bool
@@ -134,7 +147,7 @@ all_apart [] = true
 all_apart (f ∷ fs) = every (λ g. apart f.pattern g.pattern) fs && all_apart fs
 
 chosen :
-    (n : ℕ) (fs : List Form) (f : Form) (ns : List ℕ) → IsAt n fs f → all_apart fs ≡ true → Small most_digits ns
+    (n : ℕ) (fs : List Form) (f : Form) (ns : List ℕ) → IsAt n fs f → all_apart fs ≡ true → FewDigits most_digits ns
     → fit most_digits f.pattern (filled f.pattern ns) ≡ Some ns
     → first_form fs (filled f.pattern ns) ≡ Some (f.call ns)
 unfolding all_apart
@@ -146,18 +159,19 @@ chosen (suc n) (g ∷ gs) f ns h a m e =
     rw (apart_unfit most_digits (lit≤ tt) (lit≤ tt) g.pattern f.pattern ns d m) (chosen n gs f ns h w.1 m e)
 
 pub rendered_form :
-    (c : Call) → Small most_digits (figures_in c) → length (rendered c) ≤ longest_line → line_of (rendered c) ≡ Some c
+    (c : Call) → HasLine c → FewDigits most_digits (figures_in c) → length (rendered c) ≤ longest_line
+    → line_of (rendered c) ≡ Some c
 unfolding line_of line_at every all_apart separate apart
-rendered_form c h l =
+rendered_form c r h l =
     let k = formed c in
     let p = each_form (λ f. separate f.pattern) refl c in
     let e = fills_fit most_digits (lit≤ tt) (lit≤ tt) (form_of c).pattern (figures_in c) p k.count h in
     rw (le-ltb longest_line (length (rendered c)) l)
-    (chosen k.place forms (form_of c) (figures_in c) k.is_there refl h e ∙ ap {B = Option Call} Some k.made)
+    (chosen k.place forms (form_of c) (figures_in c) k.is_there refl h e ∙ ap {B = Option Call} Some r)
 
 each : (s : List ℕ) (c : Call) → IsText s c → line_of s ≡ Some c
 each s c t =
-    ap line_of t.text ∙ rendered_form c t.small
+    ap line_of t.text ∙ rendered_form c t.has_line t.digits
     (subst (λ (x : List ℕ). length x ≤ longest_line) t.text t.short)
 
 -- ---- both ways

@@ -26,7 +26,7 @@ use Rattle.std.proofs.lemmas.Option.{none-some, same_Some}
 use Rattle.text.specs.Pattern.{fit, hashes}
 use Rattle.text.specs.Line.{figure}
 use Rattle.text.specs.Lines.{Lacks, lines_from, lines_of, OneLine}
-use Rattle.text.specs.Rendered.{Small}
+use Rattle.text.specs.Rendered.{FewDigits}
 use Rattle.text.specs.Entries.{in_book, rank, enter, empty_at}
 use Rattle.text.specs.BookText.{EntryForm, family_below, open_form}
 use Rattle.text.specs.BookReading.{book_digits, only_if, entry_in, entry_of, entered}
@@ -58,9 +58,9 @@ pub plus_is : (n : ℕ) → n < 10 ^ book_digits → to_z w64 n ≡ pos n
 plus_is n h = as_signed n (omega arith)
 
 -- the fourth figure of a line has at most 18 digits
-fourth : (ns : List ℕ) → length ns ≡ 4 → Small book_digits ns → figure ns 3 < 10 ^ book_digits
+fourth : (ns : List ℕ) → length ns ≡ 4 → FewDigits book_digits ns → figure ns 3 < 10 ^ book_digits
 fourth ns l =
-    subst (λ (x : List ℕ). Small book_digits x → figure x 3 < 10 ^ book_digits) (listed 4 ns l)
+    subst (λ (x : List ℕ). FewDigits book_digits x → figure x 3 < 10 ^ book_digits) (listed 4 ns l)
     (λ h. h.1.1.1.0)
 
 pub fourth_small :

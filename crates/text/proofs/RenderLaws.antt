@@ -13,14 +13,14 @@ use borrow.Author.Tests.{eqb-true, eq-eqb, not-true}
 use Rattle.figuring.proofs.BoolLaws.{both}
 use Rattle.text.specs.Numeral.{number, numeral, digit, leading}
 use Rattle.text.specs.Pattern.{fit, filled, hashes, on_number, on_byte, prepended, hash}
-use Rattle.text.specs.Rendered.{Small}
+use Rattle.text.specs.Rendered.{FewDigits}
 use Rattle.text.proofs.CanonLaws.{read_is, numeral_read, stops}
 
 -- what a pattern's numbers are: as many as it has #, each below 10 ^ most, and the text is the pattern filled with them
 pub record Fills (most : ℕ) (p s ns : List ℕ) : Type 0 where
   pub text : s ≡ filled p ns
   pub count : length ns ≡ hashes p
-  pub small : Small most ns
+  pub small : FewDigits most ns
 
 no_some : {X : Type 0} (ns : List ℕ) → ◌≡◌ {A = Option (List ℕ)} None (Some ns) → X
 no_some ns e = let z : ◌≡◌ {A = ℕ} 0 1 = cc in absurd (omega arith)
@@ -35,13 +35,13 @@ fit_fills most m (p ∷ ps) s ns e = go (eqb p 35) refl e (fit_fills most m ps)
     byte :
         (s : List ℕ) → on_byte p s (λ r. fit most ps r) ≡ Some ns
         → ((s ns : List ℕ) → fit most ps s ≡ Some ns → Fills most ps s ns)
-        → (s ≡ p ∷ filled ps ns) × (length ns ≡ hashes ps) × Small most ns
+        → (s ≡ p ∷ filled ps ns) × (length ns ≡ hashes ps) × FewDigits most ns
     byte [] q ih = no_some ns q
     byte (c ∷ s) q ih = inner (eqb c p) refl q
       where
         inner :
             (b : Bool) → eqb c p ≡ b → cond b (fit most ps s) None ≡ Some ns
-            → ((c ∷ s) ≡ p ∷ filled ps ns) × (length ns ≡ hashes ps) × Small most ns
+            → ((c ∷ s) ≡ p ∷ filled ps ns) × (length ns ≡ hashes ps) × FewDigits most ns
         inner true a q =
             let f = ih s ns q in
             (rw (eqb-true c p a, f.text), f.count, f.small)
@@ -56,7 +56,7 @@ fit_fills most m (p ∷ ps) s ns e = go (eqb p 35) refl e (fit_fills most m ps)
     numb :
         (m : Option (ℕ × ℕ)) → number most s ≡ m → on_number m (λ v k. prepended (v ∷ []) (fit most ps (drop k s))) ≡ Some ns
         → ((s ns : List ℕ) → fit most ps s ≡ Some ns → Fills most ps s ns)
-        → (s ≡ numeral (get_or ns 0 0) ++ filled ps (drop 1 ns)) × (length ns ≡ suc (hashes ps)) × Small most ns
+        → (s ≡ numeral (get_or ns 0 0) ++ filled ps (drop 1 ns)) × (length ns ≡ suc (hashes ps)) × FewDigits most ns
     numb None a q ih = no_some ns q
     numb (Some r) a q ih =
         let v : ℕ = r.0 in
@@ -95,7 +95,7 @@ plain_stops (c ∷ s) ns e =
     rw (not-true (eqb c hash) w.1) w.0
 
 pub fills_fit :
-    (most : ℕ) → 0 < most → most ≤ 18 → (p ns : List ℕ) → separate p ≡ true → length ns ≡ hashes p → Small most ns
+    (most : ℕ) → 0 < most → most ≤ 18 → (p ns : List ℕ) → separate p ≡ true → length ns ≡ hashes p → FewDigits most ns
     → fit most p (filled p ns) ≡ Some ns
 unfolding fit filled hashes separate
 fills_fit most o m [] [] e l h = refl
@@ -106,8 +106,8 @@ fills_fit most o m (p ∷ ps) ns e l h = go (eqb p hash) refl e l (fills_fit mos
         (ns : List ℕ)
         → (plain ps && separate ps) ≡ true
         → length ns ≡ suc (hashes ps)
-        → Small most ns
-        → ((ns : List ℕ) → separate ps ≡ true → length ns ≡ hashes ps → Small most ns
+        → FewDigits most ns
+        → ((ns : List ℕ) → separate ps ≡ true → length ns ≡ hashes ps → FewDigits most ns
         → fit most ps (filled ps ns) ≡ Some ns)
         → on_number (number most (numeral (get_or ns 0 0) ++ filled ps (drop 1 ns)))
         (λ v k. prepended (v ∷ []) (fit most ps (drop k (numeral (get_or ns 0 0) ++ filled ps (drop 1 ns))))) ≡ Some ns
@@ -125,7 +125,7 @@ fills_fit most o m (p ∷ ps) ns e l h = go (eqb p hash) refl e l (fills_fit mos
         → eqb p hash ≡ b
         → (cond b (plain ps) true && separate ps) ≡ true
         → length ns ≡ cond b (suc (hashes ps)) (hashes ps)
-        → ((ns : List ℕ) → separate ps ≡ true → length ns ≡ hashes ps → Small most ns
+        → ((ns : List ℕ) → separate ps ≡ true → length ns ≡ hashes ps → FewDigits most ns
         → fit most ps (filled ps ns) ≡ Some ns)
         → fit most (p ∷ ps) (filled (p ∷ ps) ns) ≡ Some ns
     go true a e l ih = rw a (numb ns e l h ih)
@@ -147,7 +147,7 @@ no_number most b s e = rw e
 
 -- a pattern does not fit what another, apart from it, is filled to
 module _ (most : ℕ) (o : 0 < most) (m : most ≤ 18) where
-  pub apart_unfit : (p q ns : List ℕ) → apart p q ≡ true → Small most ns → fit most p (filled q ns) ≡ None
+  pub apart_unfit : (p q ns : List ℕ) → apart p q ≡ true → FewDigits most ns → fit most p (filled q ns) ≡ None
   unfolding fit filled apart
   apart_unfit [] q ns e h = absurd (false≢true e)
   apart_unfit (a ∷ p) [] ns e h = absurd (false≢true e)
@@ -166,8 +166,8 @@ module _ (most : ℕ) (o : 0 < most) (m : most ≤ 18) where
           )
 
       numb :
-          (ns : List ℕ) → Small most ns → (plain q && apart p q) ≡ true
-          → ((ns : List ℕ) → apart p q ≡ true → Small most ns → fit most p (filled q ns) ≡ None)
+          (ns : List ℕ) → FewDigits most ns → (plain q && apart p q) ≡ true
+          → ((ns : List ℕ) → apart p q ≡ true → FewDigits most ns → fit most p (filled q ns) ≡ None)
           → on_number (number most (numeral (get_or ns 0 0) ++ filled q (drop 1 ns)))
           (λ v k. prepended (v ∷ []) (fit most p (drop k (numeral (get_or ns 0 0) ++ filled q (drop 1 ns))))) ≡ None
       numb [] h e ih =
@@ -187,7 +187,7 @@ module _ (most : ℕ) (o : 0 < most) (m : most ≤ 18) where
       go :
           (x : Bool) → eqb a hash ≡ x → (y : Bool) → eqb b hash ≡ y
           → cond x (cond y (plain q && apart p q) (not (digit b))) (not y && cond (eqb b a) (apart p q) true) ≡ true
-          → ((ns : List ℕ) → apart p q ≡ true → Small most ns → fit most p (filled q ns) ≡ None)
+          → ((ns : List ℕ) → apart p q ≡ true → FewDigits most ns → fit most p (filled q ns) ≡ None)
           → fit most (a ∷ p) (filled (b ∷ q) ns) ≡ None
       go true u true v e ih = rw (u, v) (numb ns h e ih)
       go true u false v e ih = rw (u, v, no_number most b (filled q ns) (not-true (digit b) e))

@@ -20,7 +20,7 @@ use Rattle.book.proofs.SoundnessLaws.{sound_is}
 use Rattle.text.specs.Gather.{gather}
 use Rattle.text.specs.declared.entries.Entry.{Entry}
 use Rattle.text.specs.Lines.{lines_from, lines_of}
-use Rattle.text.specs.Rendered.{Small}
+use Rattle.text.specs.Rendered.{FewDigits}
 use Rattle.text.specs.Loads.{Read, accepted, refused}
 use Rattle.text.specs.Entries.{entries, rank, all_entries, enter, empty_at}
 use Rattle.text.specs.BookText.{entry_figures, entry_line, entry_lines, open_line, book_text}
@@ -68,7 +68,7 @@ module _ (b : Book) (s : Writable b) where
     where
       small :
           (z : ℤ) → Lowℤ z
-          → Small book_digits (entry_figures (Entry.Family (i / families / sets) (i / families % sets) (i % families) z))
+          → FewDigits book_digits (entry_figures (Entry.Family (i / families / sets) (i / families % sets) (i % families) z))
       small (pos z) l = (omega arith, (omega arith, (omega arith, (l, tt))))
       small (negsuc z) l = (omega arith, (omega arith, (omega arith, (l, tt))))
 

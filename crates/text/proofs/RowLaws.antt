@@ -18,7 +18,7 @@ use Rattle.figuring.proofs.BelowLaws.{all_at, all_of}
 use Rattle.figuring.proofs.BoolLaws.{both}
 use Rattle.text.specs.Pattern.{fit, filled, hashes}
 use Rattle.text.specs.Line.{longest_line, most_digits}
-use Rattle.text.specs.Rendered.{Small}
+use Rattle.text.specs.Rendered.{FewDigits}
 use Rattle.text.specs.TableText.{std_form, of_year, row_in}
 use Rattle.text.proofs.FillLaws.{filled_length}
 use Rattle.text.proofs.RenderLaws.{fit_fills, fills_fit, separate}
@@ -63,7 +63,7 @@ row_is y l row e = long (ltb longest_line (length l)) refl e
 
 -- its text is short enough whatever its figures: 19 bytes, and 20 for each of the 7
 pub row_read :
-    (y : ℕ) (row : List ℕ) → y < 10 ^ most_digits → Small most_digits row → length row ≡ grid_columns
+    (y : ℕ) (row : List ℕ) → y < 10 ^ most_digits → FewDigits most_digits row → length row ≡ grid_columns
     → row_in y (filled std_form (y ∷ row)) ≡ Some row
 unfolding row_in hashes separate
 row_read y row h s w =
@@ -103,12 +103,12 @@ entry_small before n e =
     (λ a. omega (arith, eqb-true n 0 a))
     (λ a. leb-true n standard_most (both (leb standard_least n) (leb n standard_most) a).1)
 
-small_all : (row : List ℕ) → ((j : ℕ) → j < length row → get_or row j 0 < 10 ^ most_digits) → Small most_digits row
+small_all : (row : List ℕ) → ((j : ℕ) → j < length row → get_or row j 0 < 10 ^ most_digits) → FewDigits most_digits row
 small_all [] h = tt
 small_all (n ∷ row) h = (h 0 (omega arith), small_all row (λ j l. h (suc j) (omega arith)))
 
 pub row_small :
-    (before row : List ℕ) → length row ≡ grid_columns → row_fits before row ≡ true → Small most_digits row
+    (before row : List ℕ) → length row ≡ grid_columns → row_fits before row ≡ true → FewDigits most_digits row
 unfolding row_fits fits_at
 row_small before row w e =
     small_all row

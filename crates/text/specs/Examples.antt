@@ -1,8 +1,10 @@
 -- A line of each form and an answer of each kind, from document 01's run (credit_book's stored test has the run whole),
 -- a line of each form with figures that differ, and what lies at the edges of a form.
-use Rattle.std.specs.Prelude.{ℕ, true, false, ◌≡◌, List, [], ◌∷◌, ◌++◌, pos, replicate, Some, None, Ok, Err}
+use Rattle.std.specs.Prelude.{ℕ, ◌≡◌, List, [], ◌∷◌, ◌++◌, pos, replicate, Some, None, Ok, Err}
 use Rattle.figuring.specs.Units.{neg}
+use Rattle.book.specs.Limits.{large_entry, small_entry}
 use Rattle.book.specs.declared.kinds.Call.{Call}
+use Rattle.book.specs.declared.kinds.Purpose.{Purpose}
 use Rattle.book.specs.declared.answers.Answer.{Answer}
 use Rattle.book.specs.declared.answers.Refusal.{Refusal}
 use Rattle.book.specs.declared.listing.LotEntry.{LotEntry}
@@ -25,7 +27,7 @@ pub record Run : Type 0 where
   pub file :
       ascii "(file (maker 0) (set 3) (year 2014) (use 1) (edition 0) (family 0) (fcl 465) (cf 280000) (volume 1000) (life 435))"
       reads Call.File (record {
-        amends = false;
+        purpose = large_entry;
         maker = 0;
         set = 3;
         year = 2014;
@@ -61,7 +63,22 @@ pub record Fields : Type 0 where
   pub file :
       ascii "(file (maker 1) (set 2) (year 2025) (use 0) (edition 3) (family 4) (fcl 5) (cf 6) (volume 7) (life 8))"
       reads Call.File (record {
-        amends = false;
+        purpose = large_entry;
+        maker = 1;
+        set = 2;
+        year = 2025;
+        vehicle_use = 0;
+        edition = 3;
+        family = 4;
+        fcl = 5;
+        cf = 6;
+        volume = 7;
+        life = 8;
+      })
+  pub small :
+      ascii "(small (maker 1) (set 2) (year 2025) (use 0) (edition 3) (family 4) (fcl 5) (cf 6) (volume 7) (life 8))"
+      reads Call.File (record {
+        purpose = small_entry;
         maker = 1;
         set = 2;
         year = 2025;
@@ -76,7 +93,7 @@ pub record Fields : Type 0 where
   pub amend :
       ascii "(amend (maker 1) (set 2) (year 2025) (use 0) (edition 3) (family 4) (fcl 5) (cf 6) (volume 7) (life 8))"
       reads Call.File (record {
-        amends = true;
+        purpose = Purpose.Amend;
         maker = 1;
         set = 2;
         year = 2025;

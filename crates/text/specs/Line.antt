@@ -1,9 +1,11 @@
 -- Document 01, "Terminal text": which line is which call.
-use Rattle.std.specs.Prelude.{ℕ, Bool, true, false, cond, List, [], ◌∷◌, ◌++◌, ltb, length, drop, Option, None, option_map}
+use Rattle.std.specs.Prelude.{ℕ, cond, List, [], ◌∷◌, ◌++◌, ltb, length, drop, Option, None, option_map}
 use Rattle.std.specs.Option.{option_or}
 pub use Rattle.book.specs.Calls.{figure}
 use Rattle.book.specs.Calls.{filing_of, trade_of, application_of, retirement_of, cover_of}
+use Rattle.book.specs.Limits.{large_entry, small_entry}
 use Rattle.book.specs.declared.kinds.Call.{Call}
+use Rattle.book.specs.declared.kinds.Purpose.{Purpose}
 use Rattle.text.specs.Ascii.{ascii}
 use Rattle.text.specs.Pattern.{fit}
 
@@ -25,15 +27,27 @@ abbrev pub filing_fields : List ℕ
 filing_fields =
     ascii "(maker #) (set #) (year #) (use #) (edition #) (family #) (fcl #) (cf #) (volume #) (life #)"
 
-abbrev pub filing_call : Bool → List ℕ → Call
-filing_call amends n = Call.File (filing_of amends n)
+abbrev pub filing_call : Purpose → List ℕ → Call
+filing_call purpose n = Call.File (filing_of purpose n)
 
 abbrev pub file : Form
-file = record { pattern = ascii "(file " ++ filing_fields ++ ascii ")"; call = filing_call false }
+file =
+    record {
+      pattern = ascii "(file " ++ filing_fields ++ ascii ")";
+      call = filing_call large_entry;
+    }
+
+-- Card 10: "lines led by `small` in place of `file`"
+abbrev pub small : Form
+small =
+    record {
+      pattern = ascii "(small " ++ filing_fields ++ ascii ")";
+      call = filing_call small_entry;
+    }
 
 -- Card 6: "An `(amend ..)` line takes a filing's fields"
 abbrev pub amend : Form
-amend = record { pattern = ascii "(amend " ++ filing_fields ++ ascii ")"; call = filing_call true }
+amend = record { pattern = ascii "(amend " ++ filing_fields ++ ascii ")"; call = filing_call Purpose.Amend }
 
 abbrev pub close : Form
 close = record { pattern = ascii "(close (year #))"; call = λ n. Call.Close (figure n 0) }
@@ -65,7 +79,7 @@ cover = record { pattern = ascii "(cover (maker #) (set #))"; call = λ n. Call.
 
 -- the forms, in the order in which they are tried
 abbrev pub forms : List Form
-forms = file ∷ amend ∷ close ∷ trade ∷ apply ∷ retire ∷ cover ∷ []
+forms = file ∷ small ∷ amend ∷ close ∷ trade ∷ apply ∷ retire ∷ cover ∷ []
 
 -- the call that a text is by a form, if it fits it
 abbrev pub call_in : Form → List ℕ → Option Call

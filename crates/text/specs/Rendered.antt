@@ -1,20 +1,33 @@
 -- The line that a call is written as, and what reading has to do with it.
-use Rattle.std.specs.Prelude.{ℕ, ◌^◌, ◌<◌, ◌≤◌, Bool, true, false, ◌≡◌, List, [], ◌∷◌, length, Some, None}
+use Rattle.std.specs.Prelude.{ℕ, ◌^◌, ◌<◌, ◌≤◌, Bool, true, cond, ◌&&◌, eqb, ◌≡◌, List, [], ◌∷◌, length, Some, None}
 use Rattle.figuring.specs.Tables.{Table}
 use Rattle.book.specs.Rules.{posted}
+use Rattle.book.specs.Limits.{large_limits, small_limits, large_entry, small_entry}
+use Rattle.book.specs.Filings.{with_purpose}
 use Rattle.book.specs.Demand3.{is_accepted}
 use Rattle.book.specs.declared.ledger.Book.{Book}
 use Rattle.book.specs.declared.kinds.Call.{Call}
 use Rattle.book.specs.declared.kinds.Filing.{Filing}
+use Rattle.book.specs.declared.kinds.Trade.{Trade}
+use Rattle.book.specs.declared.kinds.Application.{Application}
+use Rattle.book.specs.declared.kinds.Retirement.{Retirement}
+use Rattle.book.specs.declared.kinds.Cover.{Cover}
+use Rattle.book.specs.declared.kinds.Limits.{Limits}
+use Rattle.book.specs.declared.kinds.Purpose.{Purpose}
 use Rattle.text.specs.Pattern.{filled}
-use Rattle.text.specs.Line.{Form, file, amend, close, trade, apply, retire, cover, line_of, longest_line, most_digits}
+use Rattle.text.specs.Line.{Form, file, small, amend, close, trade, apply, retire, cover, line_of, longest_line, most_digits}
 
-abbrev pub filing_form : Bool → Form
-filing_form false = file
-filing_form true = amend
+abbrev pub same_limits : Limits → Limits → Bool
+same_limits l m = eqb l.number m.number && eqb l.volume m.volume
+
+-- The form of a filing by its limits, or of an amendment; `file` also where neither entry has these limits: such a call has
+-- no line.
+abbrev pub filing_form : Purpose → Form
+filing_form (Purpose.File l) = cond (same_limits l small_limits) small file
+filing_form Purpose.Amend = amend
 
 abbrev pub form_of : Call → Form
-form_of (Call.File x) = filing_form x.amends
+form_of (Call.File x) = filing_form x.purpose
 form_of (Call.Close x) = close
 form_of (Call.Trade x) = trade
 form_of (Call.Apply x) = apply
@@ -40,26 +53,46 @@ figures_in (Call.Apply x) = x.maker ∷ x.set ∷ x.vintage ∷ x.year ∷ x.mg 
 figures_in (Call.Retire x) = x.maker ∷ x.set ∷ x.vintage ∷ x.mg ∷ []
 figures_in (Call.Cover x) = x.maker ∷ x.set ∷ []
 
+-- A call has a line if its form makes it of its figures.
+abbrev pub HasLine : Call → Type 0
+HasLine c = (form_of c).call (figures_in c) ≡ c
+
+-- Every call has one but a filing under another pair of limits than the two entries'.
+pub record WhichHaveLines : Type 0 where
+  pub file : (x : Filing) → HasLine (Call.File (with_purpose large_entry x))
+  pub small : (x : Filing) → HasLine (Call.File (with_purpose small_entry x))
+  pub amend : (x : Filing) → HasLine (Call.File (with_purpose Purpose.Amend x))
+  pub no_other_filing :
+      (x : Filing) (l : Limits) → (l ≡ large_limits → ⊥) → (l ≡ small_limits → ⊥)
+      → HasLine (Call.File (with_purpose (Purpose.File l) x)) → ⊥
+  pub close : (x : ℕ) → HasLine (Call.Close x)
+  pub trade : (x : Trade) → HasLine (Call.Trade x)
+  pub apply : (x : Application) → HasLine (Call.Apply x)
+  pub retire : (x : Retirement) → HasLine (Call.Retire x)
+  pub cover : (x : Cover) → HasLine (Call.Cover x)
+
 -- a call's text: its form, with its figures in the places
 abbrev pub rendered : Call → List ℕ
 rendered c = filled (form_of c).pattern (figures_in c)
 
 -- every figure has at most k digits
-abbrev pub Small : ℕ → List ℕ → Type 0
-Small k [] = Unit {0}
-Small k (n ∷ ns) = (n < 10 ^ k) × Small k ns
+abbrev pub FewDigits : ℕ → List ℕ → Type 0
+FewDigits k [] = Unit {0}
+FewDigits k (n ∷ ns) = (n < 10 ^ k) × FewDigits k ns
 
--- a line is a call's text, short enough, with figures of at most 12 digits
+-- a line is the text of a call that has one, short enough, with figures of at most 12 digits
 pub record IsText (s : List ℕ) (c : Call) : Type 0 where
+  pub has_line : HasLine c
   pub text : s ≡ rendered c
   pub short : length s ≤ longest_line
-  pub small : Small most_digits (figures_in c)
+  pub digits : FewDigits most_digits (figures_in c)
 
--- A filing or an amendment that some book accepts with some table, so one with every figure within its limits, can be
--- typed: its text is short enough.
+-- A filing of either entry or an amendment that some book accepts with some table, so one with every figure within its
+-- limits, can be typed: its text is short enough.
 abbrev pub CanBeTyped : Table → Book → Filing → Type 0
 CanBeTyped t b f =
-    is_accepted (posted t b (Call.File f)).answer ≡ true → IsText (rendered (Call.File f)) (Call.File f)
+    HasLine (Call.File f)
+    → is_accepted (posted t b (Call.File f)).answer ≡ true → IsText (rendered (Call.File f)) (Call.File f)
 
 -- a line is no call's text
 abbrev pub NoText : List ℕ → Type 0

@@ -10,7 +10,7 @@ ghost use Rattle.text.specs.Examples.{Edges, Fields, Run};
 ghost use Rattle.text.specs.Lines.{Lines};
 ghost use Rattle.text.specs.OneForm.{OneForm};
 ghost use Rattle.text.specs.Program.{AnyChunks};
-ghost use Rattle.text.specs.Rendered.{CanBeTyped, Reads};
+ghost use Rattle.text.specs.Rendered.{CanBeTyped, Reads, WhichHaveLines};
 ghost use Rattle.text.specs.RoundTrip.{Exact, Room, RoundTrip};
 ghost use Rattle.text.specs.TableText.{TableTexts};
 ghost use Rattle.figuring.specs.Tables.{Table};
@@ -28,9 +28,11 @@ pub fn calls_by_their_text() -> bool
     true
 }
 
-// A filing that some book accepts with some table has a text of at most 160 bytes, which is read as it.
+// Which calls have a line; and a filing that has one and that some book accepts with some table has a text of at most 160
+// bytes, which is read as it.
 pub fn filings_can_be_typed() -> bool
-    ensures { (result ≡ true) × ((t : Table) (b : Book) (f : Filing) → CanBeTyped t b f) }
+    ensures { (result ≡ true) × WhichHaveLines
+        × ((t : Table) (b : Book) (f : Filing) → CanBeTyped t b f) }
 {
     true
 }

@@ -4,10 +4,10 @@
 ghost use Rattle.std.specs.Prelude.{◌≡◌, option_map};
 ghost use Rattle.book.specs.declared.kinds.Call.{Call};
 ghost use Rattle.text.specs.Pattern.{fit, hashes};
-ghost use Rattle.text.specs.Line.{file, amend, close, trade, apply, retire, cover, forms, filing_call, most_digits, call_in, first_form, line_at};
+ghost use Rattle.text.specs.Line.{file, small, amend, close, trade, apply, retire, cover, forms, filing_call, most_digits, call_in, first_form, line_at};
 
 use crate::patterns::fitted;
-use book::kinds::{Application, Call, Cover, Filing, Retirement, Trade};
+use book::kinds::{Application, Call, Cover, Filing, Limits, Purpose, Retirement, Trade};
 
 // The most bytes of a line before its line feed, and the most digits of a number in it.
 pub const LONGEST_LINE: usize = 160;
@@ -30,6 +30,7 @@ fn first_form(line: &[u8]) -> Option<Call>
     ensures { result ≡ first_form forms line.now }
 {
     file(line)
+        .or_else(|| small(line))
         .or_else(|| amend(line))
         .or_else(|| close(line))
         .or_else(|| trade(line))
@@ -42,8 +43,18 @@ fn file(line: &[u8]) -> Option<Call>
     ensures { result ≡ call_in file line.now }
 {
     filing(
-        false,
+        Purpose::File(Limits::LARGE),
         b"(file (maker #) (set #) (year #) (use #) (edition #) (family #) (fcl #) (cf #) (volume #) (life #))",
+        line,
+    )
+}
+
+fn small(line: &[u8]) -> Option<Call>
+    ensures { result ≡ call_in small line.now }
+{
+    filing(
+        Purpose::File(Limits::SMALL),
+        b"(small (maker #) (set #) (year #) (use #) (edition #) (family #) (fcl #) (cf #) (volume #) (life #))",
         line,
     )
 }
@@ -52,18 +63,18 @@ fn amend(line: &[u8]) -> Option<Call>
     ensures { result ≡ call_in amend line.now }
 {
     filing(
-        true,
+        Purpose::Amend,
         b"(amend (maker #) (set #) (year #) (use #) (edition #) (family #) (fcl #) (cf #) (volume #) (life #))",
         line,
     )
 }
 
-fn filing(amends: bool, pattern: &[u8], line: &[u8]) -> Option<Call>
+fn filing(purpose: Purpose, pattern: &[u8], line: &[u8]) -> Option<Call>
     requires { hashes pattern.now ≡ 10 }
-    ensures { result ≡ option_map (filing_call amends) (fit most_digits pattern.now line.now) }
+    ensures { result ≡ option_map (filing_call purpose) (fit most_digits pattern.now line.now) }
 {
     let figures = fitted::<10>(pattern, line, MOST_DIGITS)?;
-    Some(Call::File(Filing::of(amends, figures)))
+    Some(Call::File(Filing::of(purpose, figures)))
 }
 
 // A form is its pattern and the call of its figures, two lines: one function for these would be handed the pattern, the type

@@ -5,7 +5,8 @@
 
 use crate::book::{cell, Book, CELLS, FAMILIES, MAKERS, SETS};
 use crate::covering::oldest_first;
-use crate::figuring::{part, rounded, year_index, Mg, Part, FIRST_YEAR, YEARS};
+use crate::figuring::{rounded, year_index, Mg, Part, FIRST_YEAR, YEARS};
+use crate::limits::Limits;
 use crate::postings::{Application, Call, Cover, Filing};
 use crate::standards::Table;
 use std::array;
@@ -102,7 +103,8 @@ impl Accounts {
             return Ok(());
         }
         match call {
-            Call::File(filing) | Call::Amend(filing) => self.count(table, filing)?,
+            Call::File(filing) | Call::Amend(filing) => self.count(table, Limits::LARGE, filing)?,
+            Call::Small(filing) => self.count(table, Limits::SMALL, filing)?,
             Call::Close { year } => self.close(*year)?,
             Call::Trade(c) => {
                 self.account_mut(c.from, c.set, c.vintage)?.sold += i128::from(c.mg);
@@ -147,13 +149,13 @@ impl Accounts {
 
     /// A family counts with these figures, under the standard that they name
     /// by this table, in place of those it counted with.
-    fn count(&mut self, table: &Table, filing: &Filing) -> Result<(), OutOfPlace> {
-        if !table.is_accepted() {
+    fn count(&mut self, table: &Table, limits: Limits, filing: &Filing) -> Result<(), OutOfPlace> {
+        if !table.is_accepted() || limits.place(filing.family).is_none() {
             return Err(OutOfPlace);
         }
         let part = table
             .named_standard(filing.edition, filing.set, filing.usage, filing.year)
-            .and_then(|standard| part(standard, &filing.figures))
+            .and_then(|standard| limits.part(standard, &filing.figures))
             .ok_or(OutOfPlace)?;
         let account = self.account_mut(filing.maker, filing.set, filing.year)?;
         account.parts.insert(filing.family, part);

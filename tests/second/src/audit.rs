@@ -139,7 +139,9 @@ impl Audit {
 
     fn hold_touched(&self, call: &Call, book: &Book) -> Result<(), Violation> {
         match call {
-            Call::File(c) | Call::Amend(c) => self.hold_place(book, c.maker, c.set, c.year),
+            Call::File(c) | Call::Small(c) | Call::Amend(c) => {
+                self.hold_place(book, c.maker, c.set, c.year)
+            }
             Call::Close { year } => {
                 self.hold_open_year(book)?;
                 self.hold_year(book, *year)

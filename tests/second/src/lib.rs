@@ -2,9 +2,9 @@
 //! from the words of document 01 and the cards so that another one can be held
 //! against it.
 //!
-//! `standards`, `figuring`, `book`, `covering` and `postings` are the rules; `text`
-//! and `listing` the terminal, `std_text` its tables, `written` a whole book as text;
-//! `accounts` and `audit` the claims about a whole list of calls; `session` runs
+//! `standards`, `figuring`, `limits`, `book`, `covering` and `postings` are the rules;
+//! `text` and `listing` the terminal, `std_text` its tables, `written` a whole book as
+//! text; `accounts` and `audit` the claims about a whole list of calls; `session` runs
 //! a terminal session; `generate` writes sessions, tables and texts for testing;
 //! `asked` and `room` serve the commands that run another program.
 
@@ -17,6 +17,7 @@ pub mod book;
 pub mod covering;
 pub mod figuring;
 pub mod generate;
+pub mod limits;
 pub mod listing;
 pub mod postings;
 pub mod room;

@@ -2,13 +2,17 @@
 
 use crate::book::{cell, Book, CELLS, FAMILIES, MAKERS, SETS};
 use crate::covering::oldest_first;
-use crate::figuring::{is_live, is_open, part, rounded, year_index, Figures, Mg, Part, ALL_CLOSED};
+use crate::figuring::{is_live, is_open, rounded, year_index, Figures, Mg, Part, ALL_CLOSED};
+use crate::limits::Limits;
 use crate::standards::Table;
 
 /// A call with its arguments other than the book and the table.
 #[derive(Clone, Copy, Debug, PartialEq, Eq)]
 pub enum Call {
+    /// By the large entry.
     File(Filing),
+    /// By the small makers' entry, to the same book.
+    Small(Filing),
     /// Its figures take the place of those the family was filed with.
     Amend(Filing),
     Close {
@@ -123,7 +127,8 @@ pub type Answer = Result<Results, Refusal>;
 pub fn post(book: &mut Book, table: &Table, call: &Call) -> Answer {
     require(book.is_sound(), Refusal::UnsoundBook)?;
     match call {
-        Call::File(filing) => file(book, table, filing),
+        Call::File(filing) => file(book, table, Limits::LARGE, filing),
+        Call::Small(filing) => file(book, table, Limits::SMALL, filing),
         Call::Amend(amended) => amend(book, table, amended),
         Call::Close { year } => close(book, *year),
         Call::Trade(trade) => post_trade(book, trade),
@@ -133,11 +138,18 @@ pub fn post(book: &mut Book, table: &Table, call: &Call) -> Answer {
     }
 }
 
+/// Posts a filing by any pair of limits. The two entries are two such pairs, and
+/// the book keeps neither.
+pub fn file_by(book: &mut Book, table: &Table, limits: Limits, filing: &Filing) -> Answer {
+    require(book.is_sound(), Refusal::UnsoundBook)?;
+    file(book, table, limits, filing)
+}
+
 // Each function below is handed a sound book and moves nothing before its
 // last check.
 
-fn file(book: &mut Book, table: &Table, filing: &Filing) -> Answer {
-    let family = figured(book, table, filing)?;
+fn file(book: &mut Book, table: &Table, limits: Limits, filing: &Filing) -> Answer {
+    let family = figured(book, table, limits, filing)?;
     require(!is_filed(book, &family), Refusal::AlreadyFiled)?;
 
     book.marks[family.cell] |= 1 << family.number;
@@ -145,7 +157,7 @@ fn file(book: &mut Book, table: &Table, filing: &Filing) -> Answer {
 }
 
 fn amend(book: &mut Book, table: &Table, amended: &Filing) -> Answer {
-    let family = figured(book, table, amended)?;
+    let family = figured(book, table, Limits::LARGE, amended)?;
     require(is_filed(book, &family), Refusal::NotFiled)?;
 
     Ok(put(book, &family))
@@ -160,14 +172,16 @@ struct Family {
 
 /// What a filing and an amendment are asked alike: all but whether the family
 /// is filed.
-fn figured(book: &Book, table: &Table, filing: &Filing) -> Result<Family, Refusal> {
+fn figured(book: &Book, table: &Table, limits: Limits, filing: &Filing) -> Result<Family, Refusal> {
     require(table.is_accepted(), Refusal::Table)?;
     let maker = known_maker(filing.maker)?;
     let set = known_set(filing.set)?;
     require_open_year(book, filing.year)?;
     let standard = standard_of(table, filing)?;
-    let number = below(filing.family, FAMILIES).ok_or(Refusal::Family)?;
-    let part = part(standard, &filing.figures).ok_or(Refusal::Limits)?;
+    let number = limits.place(filing.family).ok_or(Refusal::Family)?;
+    let part = limits
+        .part(standard, &filing.figures)
+        .ok_or(Refusal::Limits)?;
     let cell = cell(maker, set);
     Ok(Family { cell, number, part })
 }

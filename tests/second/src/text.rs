@@ -39,6 +39,8 @@ impl Reader<'_> {
     fn call(&mut self) -> Option<Call> {
         let call = if self.take(b"(file").is_some() {
             Call::File(self.filing()?)
+        } else if self.take(b"(small").is_some() {
+            Call::Small(self.filing()?)
         } else if self.take(b"(amend").is_some() {
             Call::Amend(self.filing()?)
         } else if self.take(b"(close").is_some() {
@@ -219,6 +221,7 @@ impl Call {
     pub fn form(&self) -> (&'static str, Vec<(&'static str, u64)>) {
         match self {
             Call::File(c) => ("file", filing_fields(c)),
+            Call::Small(c) => ("small", filing_fields(c)),
             Call::Amend(c) => ("amend", filing_fields(c)),
             Call::Close { year } => ("close", vec![("year", *year)]),
             Call::Trade(c) => (
@@ -255,7 +258,7 @@ impl Call {
     }
 }
 
-/// An amendment has them too.
+/// Those of a filing by either entry, and of an amendment.
 fn filing_fields(c: &Filing) -> Vec<(&'static str, u64)> {
     vec![
         ("maker", c.maker),

@@ -3,78 +3,34 @@
 
 mod common;
 
+use common::faults::*;
 use common::*;
 use second::book::{cell, Book};
 use second::figuring::Part;
 use second::postings::{Call, Filing};
 
-/// The number of the refusal, which must leave the book as it was.
 fn amend_refused(book: &Book, amended: Filing) -> u8 {
-    let mut after = book.clone();
-    let number = refused(amend(&mut after, amended));
-    assert!(*book == after, "a refusal changed the book");
-    number
+    refused_unchanged(book, &Call::Amend(amended))
 }
-
-type Fault = (fn(&mut Filing), u8);
 
 /// A number that nobody files.
 const UNFILED: u64 = 6;
 
-/// What may be wrong with an amendment of 2014, in the order of the checks.
-const FAULTS: [Fault; 23] = [
-    (|f| f.maker = 8, 3),
-    (|f| f.maker = u64::MAX, 3),
-    (|f| f.set = 4, 4),
-    (|f| f.set = u64::MAX, 4),
-    (|f| f.year = 2013, 5),
-    (|f| f.year = 2015, 5),
-    (|f| f.year = u64::MAX, 5),
-    (|f| f.usage = 2, 6),
-    (|f| f.usage = u64::MAX, 6),
-    (|f| f.edition = 1, 17),
-    (|f| f.edition = 2, 17),
-    (|f| f.edition = 3, 17),
-    (|f| f.family = 64, 7),
-    (|f| f.family = u64::MAX, 7),
-    (|f| f.figures.fcl = 0, 8),
-    (|f| f.figures.fcl = 1_201, 8),
-    (|f| f.figures.cf = 0, 8),
-    (|f| f.figures.cf = 1_000_001, 8),
-    (|f| f.figures.volume = 0, 8),
-    (|f| f.figures.volume = 100_001, 8),
-    (|f| f.figures.life = 0, 8),
-    (|f| f.figures.life = 501, 8),
-    (|f| f.family = UNFILED, 18),
-];
+/// What else may be wrong with an amendment.
+const OWN: [Fault; 1] = [(|f| f.family = UNFILED, 18)];
 
 #[test]
 fn the_first_of_two_faults_answers() {
     let book = two_families();
-    for (first, (break_first, number)) in FAULTS.into_iter().enumerate() {
-        let mut alone = plain(5, 560);
-        break_first(&mut alone);
-        assert_eq!(amend_refused(&book, alone), number, "{alone:?}");
-        for (break_later, _) in &FAULTS[first + 1..] {
-            let mut both = plain(5, 560);
-            break_later(&mut both);
-            break_first(&mut both);
-            assert_eq!(amend_refused(&book, both), number, "{both:?}");
-        }
-    }
+    let gets = |amended| amend_refused(&book, amended);
+    the_first_of_two_answers(&with_own(&OWN), plain(5, 560), gets);
 }
 
-/// All faults at once, then one less each time.
 #[test]
 fn the_order_of_an_amendments_refusals() {
     let book = two_families();
-    for (first, (_, number)) in FAULTS.into_iter().enumerate() {
-        let mut faulty = plain(5, 560);
-        for (fault, _) in FAULTS[first..].iter().rev() {
-            fault(&mut faulty);
-        }
-        assert_eq!(amend_refused(&book, faulty), number, "{faulty:?}");
-    }
+    let gets = |amended| amend_refused(&book, amended);
+    the_first_of_all_answers(&with_own(&OWN), plain(5, 560), gets);
 }
 
 #[test]

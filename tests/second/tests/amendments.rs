@@ -7,7 +7,6 @@ use common::any::*;
 use common::*;
 use second::book::{cell, Book};
 use second::figuring::Part;
-use second::generate::rng::Rng;
 use second::postings::{Call, Filing, Refusal};
 use std::collections::BTreeSet;
 
@@ -77,31 +76,25 @@ fn unfiled(book: &Book, c: &Filing) -> (Book, bool) {
 /// place of the first, and leaves the book that this would have left.
 #[test]
 fn an_amendment_is_as_if_its_figures_had_been_filed() {
-    let mut rng = Rng::new(6);
     let mut reached = BTreeSet::new();
-    for _ in 0..120 {
-        let mut book = begun(&mut rng);
-        let narrow = rng.once_in(2);
-        fill(&mut book, &mut rng, narrow);
-        for _ in 0..100 {
-            let year = match rng.below(24) {
-                0 => book.open_year + 1,
-                1 => book.open_year - 1,
-                2 => rng.draw(),
-                _ => book.open_year,
-            };
-            let amended = any_amendment(&mut rng, &book, year, narrow);
-            let (mut without, is_filed) = unfiled(&book, &amended);
-            let (answer, after) = match post(&mut without, &Call::File(amended)) {
-                Ok(results) if is_filed => (Ok(results), without),
-                Ok(_) => (Err(Refusal::NotFiled), book.clone()),
-                Err(refusal) => (Err(refusal), book.clone()),
-            };
-            assert_eq!(amend(&mut book, amended), answer, "{amended:?}");
-            assert!(book == after, "another book after {amended:?}");
-            reached.insert(answer.map(|_| is_filed).map_err(Refusal::number));
-        }
-    }
+    each_book(6, |book, rng, narrow| {
+        let year = match rng.below(24) {
+            0 => book.open_year + 1,
+            1 => book.open_year - 1,
+            2 => rng.draw(),
+            _ => book.open_year,
+        };
+        let amended = any_amendment(rng, book, year, narrow);
+        let (mut without, is_filed) = unfiled(book, &amended);
+        let (answer, after) = match post(&mut without, &Call::File(amended)) {
+            Ok(results) if is_filed => (Ok(results), without),
+            Ok(_) => (Err(Refusal::NotFiled), book.clone()),
+            Err(refusal) => (Err(refusal), book.clone()),
+        };
+        assert_eq!(amend(book, amended), answer, "{amended:?}");
+        assert!(*book == after, "another book after {amended:?}");
+        reached.insert(answer.map(|_| is_filed).map_err(Refusal::number));
+    });
     let wanted = (2..=8).chain([17, 18]).map(Err).chain([Ok(true)]);
     assert_eq!(reached, wanted.collect());
 }

@@ -106,7 +106,12 @@ fn an_accepted_call_outside_the_accounts_is_noticed() {
         "(file (maker 0) (set 3) (year 2015) (use 0) (edition 0) (family 0) (fcl 0) (cf 1) (volume 1) (life 1))",
         "(file (maker 0) (set 3) (year 2015) (use 0) (edition 1) (family 0) (fcl 1) (cf 1) (volume 1) (life 1))",
         "(file (maker 0) (set 3) (year 2015) (use 0) (edition 3) (family 0) (fcl 1) (cf 1) (volume 1) (life 1))",
+        "(file (maker 0) (set 3) (year 2015) (use 0) (edition 0) (family 64) (fcl 1) (cf 1) (volume 1) (life 1))",
+        "(small (maker 0) (set 3) (year 2015) (use 0) (edition 0) (family 16) (fcl 1) (cf 1) (volume 1) (life 1))",
+        "(small (maker 0) (set 3) (year 2015) (use 0) (edition 0) (family 0) (fcl 1) (cf 1) (volume 5001) (life 1))",
+        "(small (maker 8) (set 3) (year 2015) (use 0) (edition 0) (family 0) (fcl 1) (cf 1) (volume 1) (life 1))",
         "(amend (maker 8) (set 3) (year 2015) (use 0) (edition 0) (family 0) (fcl 1) (cf 1) (volume 1) (life 1))",
+        "(amend (maker 0) (set 3) (year 2015) (use 0) (edition 0) (family 64) (fcl 1) (cf 1) (volume 1) (life 1))",
         "(amend (maker 0) (set 3) (year 2015) (use 0) (edition 0) (family 0) (fcl 0) (cf 1) (volume 1) (life 1))",
         "(amend (maker 0) (set 3) (year 2015) (use 0) (edition 1) (family 0) (fcl 1) (cf 1) (volume 1) (life 1))",
     ] {
@@ -168,6 +173,15 @@ fn the_accounts_count_a_family_with_its_last_accepted_figures() {
         (Call::Amend, plain(5, 570), true, -3),
         (Call::Amend, plain(9, 500), true, -3 + 67),
         (Call::Amend, plain(5, 566), true, 1 + 67),
+        (Call::Small, plain(15, 560), true, 1 + 67 + 7),
+        (Call::Small, plain(14, 560), false, 1 + 67 + 7),
+        (
+            Call::Amend,
+            of_volume(15, 566, 100_000),
+            true,
+            1 + 67 + 1_000,
+        ),
+        (Call::Amend, plain(15, 567), true, 1 + 67),
     ] {
         let fed = accounts.feed(&BUILT_IN, &form(filing), accepted);
         assert_eq!((fed, sum(&accounts)), (Ok(()), mg(total)), "{filing:?}");
@@ -181,6 +195,34 @@ fn the_accounts_count_a_family_with_its_last_accepted_figures() {
         .feed(&BUILT_IN, &call(CLOSE), true)
         .expect("in place");
     assert_eq!(accounts.account(0, 3, 2014).map(Account::lot), Ok(68));
+}
+
+/// A filing counts alike by either entry: nothing keeps which it was.
+#[test]
+fn the_accounts_keep_no_entry() {
+    let fed = |forms: [fn(Filing) -> Call; 2]| {
+        let mut accounts = Accounts::default();
+        for (form, filing) in forms.into_iter().zip([plain(15, 560), plain(0, 570)]) {
+            accounts
+                .feed(&BUILT_IN, &form(filing), true)
+                .expect("in place");
+        }
+        let beyond = Call::Amend(of_volume(15, 566, 5_001));
+        accounts.feed(&BUILT_IN, &beyond, true).expect("in place");
+        accounts
+    };
+    let large = fed([Call::File, Call::File]);
+    assert_eq!(
+        large.account(0, 3, 2014).map(Account::sum),
+        Ok(4_701_000_000)
+    );
+    for forms in [
+        [Call::Small as fn(Filing) -> Call, Call::File],
+        [Call::File, Call::Small],
+        [Call::Small, Call::Small],
+    ] {
+        assert_eq!(fed(forms), large);
+    }
 }
 
 /// The sums of the cells at each close.

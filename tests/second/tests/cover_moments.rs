@@ -17,7 +17,7 @@ use second::postings::{Answer, Application, Call, Cover, Results};
 fn roles(call: &Call) -> Vec<(usize, &'static str)> {
     let one = |maker: u64, set: u64, role| vec![(maker as usize * SETS + set as usize, role)];
     match call {
-        Call::File(c) => one(c.maker, c.set, "a filing"),
+        Call::File(c) | Call::Small(c) => one(c.maker, c.set, "a filing"),
         Call::Amend(c) => one(c.maker, c.set, "an amendment"),
         Call::Close { .. } => (0..CELLS).map(|cell| (cell, "a close")).collect(),
         Call::Trade(c) => [one(c.from, c.set, "a sale"), one(c.to, c.set, "a purchase")].concat(),
@@ -146,7 +146,7 @@ fn covers_come_after_every_call_and_at_the_ends_of_lives() {
 fn covers_come_in_books_of_every_open_year() {
     let mut rng = Rng::new(2014);
     let mut times = Times::default();
-    for seed in 0..1_000 {
+    for seed in 0..3_000 {
         let book = many(&mut rng);
         let kind = [Kind::Years, Kind::Hostile, Kind::Mixed][rng.index(3)];
         let input = session_on(&book, &BUILT_IN, kind, seed, 60);

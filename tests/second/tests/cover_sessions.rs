@@ -3,7 +3,7 @@
 mod common;
 
 use common::payable::*;
-use common::times::Times;
+use common::times::*;
 use common::*;
 use second::book::Book;
 use second::covering::oldest_first;
@@ -112,13 +112,6 @@ impl Met {
     }
 }
 
-const KINDS: [(Kind, Range<u64>); 4] = [
-    (Kind::Years, 0..6),
-    (Kind::Mixed, 0..8),
-    (Kind::Hostile, 0..8),
-    (Kind::Bench, 0..1),
-];
-
 /// One line in twelve to sixteen of an ordinary day, and most of them move
 /// something.
 #[test]
@@ -135,11 +128,7 @@ fn sessions_have_their_share_of_covers() {
         assert!(3 * moved > 2 * accepted, "{kind}: {moved} of {accepted}");
         assert!(moved < accepted);
     }
-    for (kind, seeds) in [
-        (Kind::Full, 0..2),
-        (Kind::Single, 0..2),
-        (Kind::Standards, 0..1),
-    ] {
+    for (kind, seeds) in OTHER_KINDS {
         assert_eq!(Met::of(kind, seeds).times.of("accepted"), 0, "{kind}");
     }
 }

@@ -26,7 +26,7 @@ fn count(filings: &[(Filing, Answer)], like: impl Fn(&Filing, Result<(), u8>) ->
 #[test]
 fn sessions_file_under_every_edition_in_every_column_and_year() {
     for (kind, seeds, least) in [
-        (Kind::Years, 0..8, 20),
+        (Kind::Years, 0..10, 20),
         (Kind::Hostile, 0..8, 6),
         (Kind::Mixed, 0..12, 15),
         (Kind::Full, 0..2, 80),

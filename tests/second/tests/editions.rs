@@ -3,6 +3,7 @@
 
 mod common;
 
+use common::faults::*;
 use common::*;
 use second::accounts::Accounts;
 use second::audit::Audit;
@@ -100,9 +101,7 @@ fn the_accounts_take_the_named_standard() {
     });
 }
 
-type Change = (fn(&mut Filing), u64);
-
-const BEFORE_17: [Change; 7] = [
+const BEFORE_17: [Fault; 7] = [
     (|f| f.maker = 8, 3),
     (|f| f.set = 4, 4),
     (|f| f.year -= 1, 5),
@@ -112,21 +111,9 @@ const BEFORE_17: [Change; 7] = [
     (|f| (f.set, f.usage) = (1, 1), 6),
 ];
 
-const AFTER_17: [Change; 10] = [
-    (|f| f.family = 64, 7),
-    (|f| f.figures.fcl = 0, 8),
-    (|f| f.figures.fcl = 1_201, 8),
-    (|f| f.figures.cf = 0, 8),
-    (|f| f.figures.cf = 1_000_001, 8),
-    (|f| f.figures.volume = 0, 8),
-    (|f| f.figures.volume = 100_001, 8),
-    (|f| f.figures.life = 0, 8),
-    (|f| f.figures.life = 501, 8),
-    (|f| f.family = FILED, 9),
-];
-
 /// A family that maker 0 has filed in every set.
 const FILED: u64 = 5;
+const FILED_AGAIN: Fault = (|f| f.family = FILED, 9);
 
 fn changed(mut filing: Filing, changes: &[fn(&mut Filing)]) -> Filing {
     for change in changes {
@@ -157,15 +144,15 @@ fn refusal_17_comes_after_6_and_before_7() {
         assert_eq!(gets(&book, &wrong), 17, "{wrong:?}");
         for (before, number) in BEFORE_17 {
             let both = changed(wrong, &[before]);
-            assert_eq!(gets(&book, &both), number, "{both:?}");
+            assert_eq!(gets(&book, &both), u64::from(number), "{both:?}");
         }
-        for (after, number) in AFTER_17 {
-            assert_eq!(gets(&book, &changed(right, &[after])), number);
+        for (after, number) in OF_7_AND_8.into_iter().chain([FILED_AGAIN]) {
+            assert_eq!(gets(&book, &changed(right, &[after])), u64::from(number));
             let both = changed(wrong, &[after]);
             assert_eq!(gets(&book, &both), 17, "{both:?}");
             for (before, number) in BEFORE_17 {
                 let all = changed(wrong, &[before, after]);
-                assert_eq!(gets(&book, &all), number, "{all:?}");
+                assert_eq!(gets(&book, &all), u64::from(number), "{all:?}");
             }
         }
     }

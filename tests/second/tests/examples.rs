@@ -28,6 +28,11 @@ fn a_cover() {
 }
 
 #[test]
+fn small_filings() {
+    assert_eq!(output(&example("small.txt")), example("small.out"));
+}
+
+#[test]
 fn the_built_in_standards() {
     assert_eq!(example("std.txt"), BUILT_IN.to_string());
     assert_eq!(table("std.txt"), *BUILT_IN);

@@ -1,5 +1,5 @@
-//! The same filings and amendments of a year in another order, under one table:
-//! equal books, and each gets the same part or the same refusal. No two name the
+//! The same filings, by either entry, and amendments of a year in another order,
+//! under one table: equal books, and each gets the same part or the same refusal. No two name the
 //! same maker, set and number, or those that do keep their order.
 
 mod common;
@@ -22,13 +22,17 @@ type Gets = BTreeMap<Name, Result<Part, Refusal>>;
 /// The maker, set and number that a filing or an amendment names.
 fn name(call: &Call) -> Name {
     match call {
-        Call::File(c) | Call::Amend(c) => (c.maker, c.set, c.family),
+        Call::File(c) | Call::Small(c) | Call::Amend(c) => (c.maker, c.set, c.family),
         other => panic!("{other} names no family"),
     }
 }
 
 fn is_filing(call: &Call) -> bool {
-    matches!(call, Call::File(_))
+    matches!(call, Call::File(_) | Call::Small(_))
+}
+
+fn is_small(call: &Call) -> bool {
+    matches!(call, Call::Small(_))
 }
 
 fn is_amendment(call: &Call) -> bool {
@@ -76,8 +80,8 @@ fn listed(book: &Book) -> String {
 /// Filings alone, both, or amendments alone, in turn.
 fn any_calls(rng: &mut Rng, book: &Book, turn: u64, year: u64, narrow: bool) -> Vec<Call> {
     let calls = (0..rng.below(400)).map(|_| match turn % 3 {
-        0 => Call::File(any_filing(rng, year, narrow)),
-        1 if rng.once_in(2) => Call::File(any_filing(rng, year, narrow)),
+        0 => any_entry(rng, year, narrow),
+        1 if rng.once_in(2) => any_entry(rng, year, narrow),
         _ => Call::Amend(any_amendment(rng, book, year, narrow)),
     });
     no_two_alike(calls.collect())
@@ -114,9 +118,10 @@ fn two_orders_of_any_calls_give_one_book() {
                 Ok(part) => Ok(part.0.signum()),
                 Err(refusal) => Err(refusal.number()),
             };
-            reached.insert((is_amendment(call), kind));
-            if let (Ok(_), Call::File(c) | Call::Amend(c)) = (kind, call) {
-                editions.insert((is_amendment(call), c.edition));
+            let form = (is_amendment(call), is_small(call));
+            reached.insert((form, kind));
+            if let (Ok(_), Call::File(c) | Call::Small(c) | Call::Amend(c)) = (kind, call) {
+                editions.insert((form, c.edition));
             }
             let (_, alone) = put(&book, &table, std::slice::from_ref(call));
             assert_eq!(gets[&name(call)], alone[&name(call)]);
@@ -132,14 +137,15 @@ fn two_orders_of_any_calls_give_one_book() {
             assert_eq!(listed(&other), listed(&after));
         }
     }
-    // Of both: parts below 0, of 0 and above, every refusal, every edition.
-    for (amendment, last) in [(false, 9), (true, 18)] {
+    // Of filings by each entry, and of amendments: parts below 0, of 0 and above,
+    // every refusal, every edition.
+    for (form, last) in [((false, false), 9), ((false, true), 9), ((true, false), 18)] {
         let refusals = (2..=8).chain([17, last, 20]).map(Err);
         for wanted in [-1, 0, 1].map(Ok).into_iter().chain(refusals) {
-            let wanted = (amendment, wanted);
+            let wanted = (form, wanted);
             assert!(reached.contains(&wanted), "{wanted:?} was never given");
         }
-        assert!((0..3).all(|edition| editions.contains(&(amendment, edition))));
+        assert!((0..3).all(|edition| editions.contains(&(form, edition))));
     }
     assert!(most >= 50, "no cell had more than {most} families");
 }
@@ -256,7 +262,10 @@ fn two_calls_of_one_family_are_told_apart() {
     post(&mut begun, &Call::File(plain(5, 567))).expect("accepted");
     for (book, pair) in [
         (&fresh, [Call::File(one), Call::File(other)]),
+        (&fresh, [Call::File(one), Call::Small(other)]),
+        (&fresh, [Call::Small(one), Call::Small(other)]),
         (&fresh, [Call::File(one), Call::Amend(other)]),
+        (&fresh, [Call::Small(one), Call::Amend(other)]),
         (&begun, [Call::Amend(one), Call::Amend(other)]),
     ] {
         let [first, second] = pair;

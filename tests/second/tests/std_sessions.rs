@@ -23,7 +23,7 @@ fn each_figured(kind: Kind, seeds: Range<u64>, mut see: impl FnMut(&Table, &Fili
         let input = session_under(&table, kind, seed, kind.usual_lines());
         for call in any::calls(&input) {
             let answer = post_under(&mut book, &table, &call);
-            if let Call::File(filing) | Call::Amend(filing) = call {
+            if let Call::File(filing) | Call::Small(filing) | Call::Amend(filing) = call {
                 see(&table, &filing, answer);
             }
         }

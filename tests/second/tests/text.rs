@@ -81,7 +81,7 @@ fn near_forms_are_no_forms() {
     }
     assert!(is_form("(close (year 1))"));
     assert!(is_form("(retire (maker 0) (set 0) (vintage 0) (mg 0))"));
-    for name in ["file", "amend"] {
+    for name in ["file", "small", "amend"] {
         let shortest = SHORTEST + name.len();
         assert!(is_form(&line_of(name, shortest)), "{name}");
     }
@@ -90,7 +90,8 @@ fn near_forms_are_no_forms() {
 /// A form with a filing's ten numbers of one digit each, its name aside.
 const SHORTEST: usize = 95;
 
-/// A right filing or amendment but for its length; its maker is above 7.
+/// A right filing, by either entry, or amendment but for its length; its maker is
+/// above 7.
 fn line_of(name: &str, length: usize) -> String {
     let mut digits = [1; 10];
     let mut missing = length - SHORTEST - name.len();
@@ -124,7 +125,13 @@ fn what_is_taken_fits_on_a_line() {
         },
     };
     let mut book = book(2026, &[], &[]);
-    for (call, length) in [(Call::File(longest), 119), (Call::Amend(longest), 120)] {
+    let mut small = longest;
+    (small.maker, small.family, small.figures.volume) = (0, 15, 5_000);
+    for (call, length) in [
+        (Call::File(longest), 119),
+        (Call::Small(small), 118),
+        (Call::Amend(longest), 120),
+    ] {
         assert!(post(&mut book, &call).is_ok());
         let line = call.to_string();
         assert_eq!(line.len(), length);
@@ -140,7 +147,7 @@ fn a_line_has_at_most_160_bytes() {
         (161, "(no 1)\n"),
         (209, "(no 1)\n"),
     ] {
-        for line in ["file", "amend"].map(|name| line_of(name, length)) {
+        for line in ["file", "small", "amend"].map(|name| line_of(name, length)) {
             assert_eq!(line.len(), length);
             for piece in [1, 100, 160, 161, 1_000] {
                 let fed = output_in_pieces(format!("{line}\n").as_bytes(), piece);
@@ -207,22 +214,39 @@ fn cells_are_listed_maker_before_set_lots_before_shortages() {
 }
 
 #[test]
-fn the_form_has_a_filings_fields() {
+fn the_forms_have_a_filings_fields() {
     let filing = Call::File(plain(5, 560)).to_string();
-    let line = filing.replacen("file", "amend", 1);
-    assert_eq!(parse(line.as_bytes()), Some(Call::Amend(plain(5, 560))));
-    assert_eq!(Call::Amend(plain(5, 560)).to_string(), line);
+    for (name, call) in [
+        ("small", Call::Small(plain(5, 560))),
+        ("amend", Call::Amend(plain(5, 560))),
+    ] {
+        let line = filing.replacen("file", name, 1);
+        assert_eq!(parse(line.as_bytes()), Some(call));
+        assert_eq!(call.to_string(), line);
+    }
 }
 
+/// The form holds whatever the numbers: beyond the limits a line is a form still.
 #[test]
-fn near_forms_of_the_amendment_are_no_forms() {
-    let right = Call::Amend(plain(5, 560)).to_string();
-    let fields: Vec<&str> = right[7..right.len() - 1].split_inclusive(") ").collect();
+fn a_small_line_beyond_its_limits_is_a_form() {
+    for filing in [of_volume(16, 560, 1), of_volume(63, 560, 999_999_999_999)] {
+        let line = Call::Small(filing).to_string();
+        assert_eq!(parse(line.as_bytes()), Some(Call::Small(filing)));
+        assert_eq!(output(&line), "(no 7)\n");
+    }
+    let line = Call::Small(of_volume(15, 560, 5_001)).to_string();
+    assert_eq!(output(&line), "(no 8)\n");
+}
+
+/// A right line of a form with its name, its fields, its blanks or its ends bent.
+fn near_forms(right: &str, name: &str, heads: &str) -> Vec<String> {
+    let fields: Vec<&str> = right[name.len() + 2..right.len() - 1]
+        .split_inclusive(") ")
+        .collect();
     assert_eq!(fields.len(), 10);
-    let heads = "amends Amend AMEND amended ammend amen amenD mend fileamend file(amend refile";
     let mut near: Vec<String> = heads
         .split(' ')
-        .map(|head| right.replacen("amend", head, 1))
+        .map(|head| right.replacen(name, head, 1))
         .collect();
     for (place, field) in fields.iter().enumerate() {
         near.push(right.replacen(&format!(" {}", field.trim_end()), "", 1));
@@ -244,9 +268,36 @@ fn near_forms_of_the_amendment_are_no_forms() {
         format!("{right}\r"),
         right.replacen(' ', "", 1),
     ]);
-    for line in &near {
-        assert_ne!(*line, right);
-        assert!(parse(line.as_bytes()).is_none(), "{line}");
+    // A byte lost.
+    near.extend((0..right.len()).map(|at| format!("{}{}", &right[..at], &right[at + 1..])));
+    near
+}
+
+#[test]
+fn near_forms_of_the_small_filing_and_the_amendment_are_no_forms() {
+    let small = "smal smalls Small SMALL smalL smaller mall small0 0small smallfile filesmall \
+                 file(small small(file (small small( small_file small-file large amall";
+    let amend = "amends Amend AMEND amended ammend amen amenD mend fileamend file(amend refile";
+    for (call, name, heads) in [
+        (Call::Small(plain(5, 560)), "small", small),
+        (Call::Amend(plain(5, 560)), "amend", amend),
+    ] {
+        let right = call.to_string();
+        let mut near = near_forms(&right, name, heads);
+        let doubled = [
+            format!("{name} {name}"),
+            format!("{name} "),
+            format!(" {name}"),
+        ];
+        near.extend(doubled.map(|head| right.replacen(name, &head, 1)));
+        for line in &near {
+            assert_ne!(*line, right);
+            // A digit less may leave a form, with another number.
+            let is_form = parse(line.as_bytes()).is_some();
+            let names = |line: &str| line.replace(|byte: char| byte.is_ascii_digit(), "");
+            let digit_lost = line.len() + 1 == right.len() && names(line) == names(&right);
+            assert!(!is_form || digit_lost, "{line}");
+        }
+        assert!(parse(right.as_bytes()).is_some());
     }
-    assert!(parse(right.as_bytes()).is_some());
 }

@@ -6,10 +6,13 @@ use super::years::names;
 use super::Script;
 use crate::book::{Book, CELLS, FAMILIES, MAKERS, SETS};
 use crate::figuring::{Figures, MAX_CF, MAX_FCL, MAX_LIFE, MAX_VOLUME};
+use crate::limits::Limits;
 use crate::postings::{Call, Filing};
 use crate::standards::Table;
+use std::collections::BTreeSet;
 
-/// The form in which a family's figures are sent: a filing or an amendment.
+/// The form in which a family's figures are sent: a filing by either entry, or
+/// an amendment.
 pub(super) type Form = fn(Filing) -> Call;
 
 /// The families that were accepted this year, and in the year before it, with
@@ -17,6 +20,8 @@ pub(super) type Form = fn(Filing) -> Call;
 pub(super) struct Families {
     filed: Vec<Filing>,
     before: Vec<Filing>,
+    /// Of this year's, those that the small makers' entry filed.
+    small: BTreeSet<Name>,
 }
 
 impl Families {
@@ -44,6 +49,7 @@ impl Families {
         Families {
             filed: filings.collect(),
             before: Vec::new(),
+            small: BTreeSet::new(),
         }
     }
 
@@ -51,22 +57,31 @@ impl Families {
     pub(super) fn take(&mut self, call: &Call) {
         match call {
             Call::File(filing) => self.filed.push(*filing),
+            Call::Small(filing) => {
+                self.filed.push(*filing);
+                self.small.insert(name(filing));
+            }
             Call::Amend(amended) => {
                 self.filed.retain(|filed| name(filed) != name(amended));
                 self.filed.push(*amended);
             }
-            Call::Close { .. } => self.before = std::mem::take(&mut self.filed),
+            Call::Close { .. } => {
+                self.before = std::mem::take(&mut self.filed);
+                self.small.clear();
+            }
             Call::Trade(_) | Call::Apply(_) | Call::Retire(_) | Call::Cover(_) => {}
         }
     }
 }
 
-fn name(filing: &Filing) -> (u64, u64, u64) {
+type Name = (u64, u64, u64);
+
+fn name(filing: &Filing) -> Name {
     (filing.maker, filing.set, filing.family)
 }
 
-/// What an amendment may be refused for, 18 aside.
-const FAULTS: [fn(&mut Filing); 18] = [
+/// What an amendment may be refused for, 18 aside, and a filing, 9 aside.
+pub(super) const FAULTS: [fn(&mut Filing); 18] = [
     |f| f.maker = MAKERS as u64,
     |f| f.set = SETS as u64,
     |f| f.year -= 1,
@@ -113,6 +128,7 @@ impl Script {
         match amendment.or_else(|| self.plausible_filing())? {
             Call::Amend(amended) => Some((Call::Amend, amended)),
             Call::File(filing) => Some((Call::File, filing)),
+            Call::Small(filing) => Some((Call::Small, filing)),
             _ => None,
         }
     }
@@ -137,9 +153,14 @@ impl Script {
 
     /// A filed family with some of its figures changed: most often a raised
     /// level, at times one that makes the part 0 or changes its sign, seldom
-    /// nothing.
+    /// nothing. What a small maker filed takes half of the time a volume above
+    /// those that its entry has.
     fn amended(&mut self, filed: Filing) -> Filing {
         let mut amended = filed;
+        if self.families.small.contains(&name(&filed)) && self.rng.once_in(2) {
+            let least = Limits::SMALL.volume() + 1;
+            amended.figures.volume = self.rng.between(least, 2 * least);
+        }
         let (standard, level) = (self.standard_of(&filed), filed.figures.fcl);
         match self.rng.below(18) {
             0..=5 => amended.figures.fcl = (level + self.rng.between(1, 20)).min(MAX_FCL),
@@ -223,7 +244,7 @@ impl Script {
         }
     }
 
-    /// At last the family is filed again: refusal 9.
+    /// At last the family is filed again, by either entry: refusal 9, or 7 or 8.
     fn amend_again_and_again(&mut self) {
         let Some(filed) = self.some_filed() else {
             return;
@@ -233,7 +254,12 @@ impl Script {
             last = self.amended(last);
             self.say(Call::Amend(last));
         }
-        self.say(Call::File(filed));
+        let form = self.some_entry();
+        self.say(form(filed));
+    }
+
+    fn some_entry(&mut self) -> Form {
+        [Call::File as Form, Call::Small][self.rng.index(2)]
     }
 
     /// With a part of 0 the family is filed still: refusal 9, and it takes its
@@ -245,7 +271,8 @@ impl Script {
         let mut nothing = filed;
         nothing.figures.fcl = self.standard_of(&filed);
         self.say(Call::Amend(nothing));
-        self.say(Call::File(filed));
+        let form = self.some_entry();
+        self.say(form(filed));
         if self.rng.once_in(2) {
             self.say(Call::Amend(filed));
         }

@@ -14,6 +14,9 @@ const EDGES: &[&str] = &[
     "7",
     "8",
     "9",
+    "15",
+    "16",
+    "17",
     "63",
     "64",
     "65",
@@ -41,6 +44,9 @@ const EDGES: &[&str] = &[
     "2037",
     "2038",
     "2039",
+    "4999",
+    "5000",
+    "5001",
     "65535",
     "65536",
     "67550",
@@ -98,8 +104,8 @@ const EDGES: &[&str] = &[
 
 const NAMES: &[&str] = &[
     "maker", "set", "year", "use", "edition", "family", "fcl", "cf", "volume", "life", "from",
-    "to", "vintage", "mg", "file", "amend", "close", "trade", "apply", "retire", "cover", "fresh",
-    "list", "MAKER", "Maker", "make", "makers", "editions", "", "0", "ok", "no",
+    "to", "vintage", "mg", "file", "small", "amend", "close", "trade", "apply", "retire", "cover",
+    "fresh", "list", "MAKER", "Maker", "make", "makers", "editions", "", "0", "ok", "no",
 ];
 
 /// A form as text that can be bent.

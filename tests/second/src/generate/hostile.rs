@@ -71,6 +71,9 @@ impl Script {
         if self.rng.once_in(8) {
             return self.cover_line();
         }
+        if self.rng.once_in(8) {
+            return self.small_line();
+        }
         match self.rng.below(12) {
             0 | 1 => self.edges(),
             2 => self.long_numbers(),

@@ -15,6 +15,7 @@ mod hostile;
 mod lines;
 mod refusals;
 pub mod rng;
+pub mod small;
 mod standards;
 mod std_bends;
 pub mod std_texts;

@@ -1,5 +1,6 @@
 //! Calls that are refused, or accepted by a step, for every refusal's sake.
 
+use super::small::limits_of;
 use super::years::{index, names};
 use super::Script;
 use crate::book::{CELLS, MAKERS};
@@ -21,7 +22,7 @@ impl Script {
     /// A filing with part 0, and the same family once more, whatever edition
     /// that names: refusal 9.
     fn file_nothing_twice(&mut self) {
-        let Some(Call::File(mut filing)) = self.plausible_filing() else {
+        let Some(mut filing) = self.plausible_large() else {
             return;
         };
         let Filing { set, year, .. } = filing;
@@ -33,9 +34,10 @@ impl Script {
     }
 
     /// A plausible filing or amendment but for one figure at or one step
-    /// beside a limit.
+    /// beside a limit of its form's.
     fn filing_at_a_limit(&mut self) -> Option<Call> {
         let (form, mut filing) = self.plausible_figures()?;
+        let limits = limits_of(&form(filing));
         let outside = self.rng.below(2);
         let largest = self.rng.once_in(2);
         let edge = |low: u64, high: u64| {
@@ -48,9 +50,9 @@ impl Script {
         match self.rng.below(6) {
             0 => filing.figures.fcl = edge(1, MAX_FCL),
             1 | 2 => filing.figures.cf = self.telling_cf(),
-            3 => filing.figures.volume = edge(1, MAX_VOLUME),
+            3 => filing.figures.volume = edge(1, limits.volume()),
             4 => filing.figures.life = edge(1, MAX_LIFE),
-            _ => filing.family = 63 + outside,
+            _ => filing.family = limits.number() + outside,
         }
         Some(form(filing))
     }
@@ -92,7 +94,8 @@ impl Script {
             0 => Call::Close {
                 year: self.near_open_year(),
             },
-            1..=12 => Call::File(self.near_filing()),
+            1..=8 => Call::File(self.near_filing()),
+            9..=12 => Call::Small(self.near_small()),
             13..=20 => Call::Amend(self.near_amendment()),
             21..=32 => Call::Trade(self.near_trade()),
             33..=46 => Call::Apply(self.near_application()),
@@ -228,7 +231,7 @@ impl Script {
     }
 
     /// Mostly within the limits, often at one, seldom one step outside.
-    fn near(&mut self, low: u64, high: u64) -> u64 {
+    pub(super) fn near(&mut self, low: u64, high: u64) -> u64 {
         match self.rng.below(36) {
             0 => low.saturating_sub(1),
             1 => high + 1,

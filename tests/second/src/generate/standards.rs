@@ -6,6 +6,7 @@ use super::full::at_the_limits;
 use super::Script;
 use crate::book::{FAMILIES, MAKERS};
 use crate::figuring::{Figures, MAX_FCL, YEARS};
+use crate::limits::Limits;
 use crate::postings::{Call, Filing};
 use crate::standards::{Table, COLUMN_USES};
 
@@ -109,7 +110,10 @@ impl Script {
                 life: self.rng.between(100, 500),
             },
         };
-        (Call::File, filing)
+        match self.rng.below(4) {
+            0 => (Call::Small, made_small(filing)),
+            _ => (Call::File, filing),
+        }
     }
 
     /// At the standard or one beside it: the family's own, that of the year
@@ -128,4 +132,11 @@ impl Script {
         let level = standard.unwrap_or(600) + self.rng.below(3);
         level.saturating_sub(1).max(1)
     }
+}
+
+/// With a number and a volume of the small makers' entry.
+fn made_small(mut filing: Filing) -> Filing {
+    filing.family %= Limits::SMALL.number() + 1;
+    filing.figures.volume = filing.figures.volume.min(Limits::SMALL.volume());
+    filing
 }

@@ -58,7 +58,19 @@ impl Script {
         }
     }
 
+    /// Once in four by the small makers' entry.
     pub(super) fn plausible_filing(&mut self) -> Option<Call> {
+        let small = match self.rng.below(4) {
+            0 => self.plausible_small(),
+            _ => None,
+        };
+        match small {
+            Some(filing) => Some(Call::Small(filing)),
+            None => self.plausible_large().map(Call::File),
+        }
+    }
+
+    pub(super) fn plausible_large(&mut self) -> Option<Filing> {
         let cell_named = self.rng.index(CELLS);
         let (maker, set) = names(cell_named);
         let year = self.book.open_year;
@@ -81,7 +93,7 @@ impl Script {
             2 => (self.rng.between(170_000, 220_000), 185),
             _ => (self.rng.between(260_000, 310_000), 435),
         };
-        Some(Call::File(Filing {
+        Some(Filing {
             maker,
             set,
             year,
@@ -94,7 +106,7 @@ impl Script {
                 volume: self.rng.between(1, 30) * self.rng.between(1, 300),
                 life,
             },
-        }))
+        })
     }
 
     /// A family not yet filed in the cell, now and then one that is.

@@ -1,4 +1,5 @@
-//! Any books in the middle of a year, any filings and any amendments.
+//! Any books in the middle of a year, any filings by either entry and any
+//! amendments.
 
 use super::{post, BUILT_IN};
 use second::book::{cell, Book, MAKERS, SETS};
@@ -88,11 +89,32 @@ pub fn any_filing(rng: &mut Rng, year: u64, narrow: bool) -> Filing {
     }
 }
 
-/// Files some of any families more.
+/// By the small entry, its number and its volume within that once in two each.
+pub fn any_small(rng: &mut Rng, mut filing: Filing) -> Call {
+    if rng.once_in(2) {
+        filing.family = filing.family.min(rng.between(0, 16));
+    }
+    if rng.once_in(2) {
+        let most = rng.between(1, 5_001);
+        filing.figures.volume = filing.figures.volume.min(most);
+    }
+    Call::Small(filing)
+}
+
+/// Any filing by either entry.
+pub fn any_entry(rng: &mut Rng, year: u64, narrow: bool) -> Call {
+    let filing = any_filing(rng, year, narrow);
+    match rng.below(2) {
+        0 => any_small(rng, filing),
+        _ => Call::File(filing),
+    }
+}
+
+/// Files some of any families more, by either entry.
 pub fn fill(book: &mut Book, rng: &mut Rng, narrow: bool) {
     let year = book.open_year;
     for _ in 0..rng.below(200) {
-        let _ = post(book, &Call::File(any_filing(rng, year, narrow)));
+        let _ = post(book, &any_entry(rng, year, narrow));
     }
 }
 
@@ -109,4 +131,31 @@ pub fn any_amendment(rng: &mut Rng, book: &Book, year: u64, narrow: bool) -> Fil
         family: rng.pick(&filed).copied().unwrap_or(any.family),
         ..any
     }
+}
+
+/// Hands `see` each of 120 books a hundred times over, as it left it the last
+/// time, and whether its filings are narrow.
+pub fn each_book(seed: u64, mut see: impl FnMut(&mut Book, &mut Rng, bool)) {
+    let mut rng = Rng::new(seed);
+    for _ in 0..120 {
+        let mut book = begun(&mut rng);
+        let narrow = rng.once_in(2);
+        fill(&mut book, &mut rng, narrow);
+        for _ in 0..100 {
+            see(&mut book, &mut rng, narrow);
+        }
+    }
+}
+
+/// The same each time with any filing, seldom of another year than the open one.
+pub fn each_filing(seed: u64, mut see: impl FnMut(&mut Book, &mut Rng, Filing)) {
+    each_book(seed, |book, rng, narrow| {
+        let year = match rng.below(24) {
+            0 => book.open_year + 1,
+            1 => rng.draw(),
+            _ => book.open_year,
+        };
+        let filing = any_filing(rng, year, narrow);
+        see(book, rng, filing);
+    });
 }

@@ -3,6 +3,8 @@
 #![allow(dead_code)]
 
 pub mod any;
+pub mod faults;
+pub mod pairs;
 pub mod payable;
 pub mod program;
 pub mod rivals;
@@ -60,11 +62,11 @@ pub fn each_call(kind: Kind, seeds: Range<u64>, mut see: impl FnMut(&Book, &Call
     }
 }
 
-/// The filings of generated sessions, each with its answer.
+/// The filings of generated sessions, by either entry, each with its answer.
 pub fn filings(kind: Kind, seeds: Range<u64>) -> Vec<(Filing, Answer)> {
     let mut seen = Vec::new();
     each_call(kind, seeds, |_, call, answer| {
-        if let Call::File(filing) = call {
+        if let Call::File(filing) | Call::Small(filing) = call {
             seen.push((*filing, answer));
         }
     });
@@ -226,6 +228,25 @@ pub fn two_families() -> Book {
 
 pub fn amend(book: &mut Book, amended: Filing) -> Answer {
     post(book, &Call::Amend(amended))
+}
+
+pub fn small(book: &mut Book, filing: Filing) -> Answer {
+    post(book, &Call::Small(filing))
+}
+
+/// A plain family with a volume of its own.
+pub fn of_volume(family: u64, fcl: u64, volume: u64) -> Filing {
+    let mut filing = plain(family, fcl);
+    filing.figures.volume = volume;
+    filing
+}
+
+/// The number of a call's refusal, which must leave the book as it was.
+pub fn refused_unchanged(book: &Book, call: &Call) -> u8 {
+    let mut after = book.clone();
+    let number = refused(post(&mut after, call));
+    assert!(*book == after, "a refusal changed the book");
+    number
 }
 
 pub fn cover(book: &mut Book, maker: u64, set: u64) -> Answer {

@@ -1,6 +1,23 @@
-//! How often each thing was met.
+//! How often each thing was met, and in which sessions.
 
+use second::generate::Kind;
 use std::collections::BTreeMap;
+use std::ops::Range;
+
+/// The kinds that have every form, and sessions enough to meet what is seldom.
+pub const KINDS: [(Kind, Range<u64>); 4] = [
+    (Kind::Years, 0..6),
+    (Kind::Mixed, 0..8),
+    (Kind::Hostile, 0..8),
+    (Kind::Bench, 0..1),
+];
+
+/// The kinds that have neither covers nor small filings.
+pub const OTHER_KINDS: [(Kind, Range<u64>); 3] = [
+    (Kind::Full, 0..2),
+    (Kind::Single, 0..2),
+    (Kind::Standards, 0..1),
+];
 
 #[derive(Default)]
 pub struct Times(BTreeMap<String, u32>);

@@ -1,23 +1,28 @@
 //! Arguments of calls aimed at a book and a table.
 
-use crate::calls::{AMEND, APPLY, CLOSE, COVER, FILE, TRADE};
+use crate::calls::{AMEND, APPLY, CLOSE, COVER, FILE, FILE_BY, TRADE};
+use crate::pairs::{beside, Pair};
 use second::book::{cell, Book, CELLS, FAMILIES, MAKERS, SETS};
 use second::figuring::{
     is_live, is_open, Mg, FIRST_YEAR, MAX_CF, MAX_FCL, MAX_LIFE, MAX_VOLUME, YEARS,
 };
 use second::generate::rng::Rng;
+use second::limits::Limits;
 use second::standards::{
     alternative_standard, Table, COLUMNS, COLUMN_USES, GREATEST_STANDARD, LEAST_STANDARD,
 };
 
-/// The place of the FCL among a filing's arguments.
+// The places of these among a filing's arguments.
+const FAMILY: usize = 5;
 const FCL: usize = 6;
+const VOLUME: usize = 8;
 
 /// The arguments of a call that the book accepts, most likely, if it is sound
 /// and the table accepted.
 pub fn aimed(book: &Book, table: &Table, rng: &mut Rng, kind: usize) -> Vec<u64> {
     match kind {
         FILE | AMEND => aimed_filing(book, table, rng, kind == AMEND),
+        FILE_BY => aimed_filing_by(book, table, rng),
         CLOSE => vec![book.open_year],
         APPLY => aimed_application(book, rng),
         COVER => aimed_cover(book, rng),
@@ -62,6 +67,26 @@ fn aimed_filing(book: &Book, table: &Table, rng: &mut Rng, amendment: bool) -> V
         let standard = table.named_standard(edition, set, usage, book.open_year);
         words[FCL] = standard.unwrap_or(0);
     }
+    words
+}
+
+/// With a pair, and a number and a volume at both sides of its limits; once in
+/// six of a family that is filed.
+fn aimed_filing_by(book: &Book, table: &Table, rng: &mut Rng) -> Vec<u64> {
+    let mut words = aimed_filing(book, table, rng, false);
+    let pair = Pair::drawn(rng);
+    let limits = pair.limits();
+    let mark = book.marks[cell(words[0] as usize, words[1] as usize)];
+    let filed = rng.once_in(6);
+    let within = from_anywhere(rng, limits.number() as usize + 1, |family| {
+        (mark >> family & 1 == 1) == filed
+    });
+    words[FAMILY] = beside(rng, within as u64, pair.number, Limits::LARGE.number());
+    if words[VOLUME] > limits.volume() {
+        words[VOLUME] = rng.between(1, limits.volume().max(1));
+    }
+    words[VOLUME] = beside(rng, words[VOLUME], pair.volume, Limits::LARGE.volume());
+    words.extend([pair.number, pair.volume]);
     words
 }
 

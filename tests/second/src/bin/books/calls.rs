@@ -1,37 +1,48 @@
 //! Calls: their words, and calls on a book, some with arguments at an edge.
 
 use crate::aimed::aimed;
+use crate::pairs::Pair;
 use second::book::{cell, Book, CELLS, MAKERS, SETS};
 use second::figuring::{
     year_index, Figures, Mg, ALL_CLOSED, FIRST_YEAR, LAST_YEAR, MAX_CF, MAX_FCL, MAX_LIFE,
     MAX_VOLUME, YEARS,
 };
 use second::generate::{books::any, rng::Rng, TELLING_YEARS};
+use second::limits::Limits;
 use second::postings::{Application, Call, Cover, Filing, Retirement, Trade};
 use second::standards::Table;
 
 /// A call's kind and its arguments.
-pub const CALL_WORDS: usize = 11;
+pub const CALL_WORDS: usize = 13;
 
-// A call's kind; 4 is a retirement.
+// A call's kind.
 pub const FILE: usize = 0;
 pub const CLOSE: usize = 1;
 pub const TRADE: usize = 2;
 pub const APPLY: usize = 3;
+const RETIRE: usize = 4;
 pub const AMEND: usize = 5;
 /// The kind of a record that is no call but has a text.
 pub const TEXT: usize = 6;
 pub const COVER: usize = 7;
-pub const KINDS: usize = 8;
+/// A filing by a pair of limits, which are its last two arguments.
+pub const FILE_BY: usize = 8;
+pub const KINDS: usize = 9;
+
+/// The kinds that are calls, as often as they are drawn.
+const CALLS: [usize; 9] = [
+    FILE, CLOSE, TRADE, APPLY, RETIRE, AMEND, COVER, FILE_BY, FILE_BY,
+];
 
 pub fn kind_of(words: &[u64; CALL_WORDS]) -> usize {
     words[0] as usize
 }
 
+/// A filing by a pair is a filing, here without its pair.
 pub fn call_of(words: &[u64; CALL_WORDS]) -> Call {
     let [_, a, b, c, d, e, ..] = *words;
     match kind_of(words) {
-        FILE => Call::File(filing_of(words)),
+        FILE | FILE_BY => Call::File(filing_of(words)),
         AMEND => Call::Amend(filing_of(words)),
         CLOSE => Call::Close { year: a },
         TRADE => Call::Trade(Trade {
@@ -58,8 +69,14 @@ pub fn call_of(words: &[u64; CALL_WORDS]) -> Call {
     }
 }
 
-fn filing_of(words: &[u64; CALL_WORDS]) -> Filing {
-    let [_, maker, set, year, usage, edition, family, fcl, cf, volume, life] = *words;
+/// The pair that a filing is handed.
+pub fn pair_of(words: &[u64; CALL_WORDS]) -> Option<Pair> {
+    let [.., number, volume] = *words;
+    (kind_of(words) == FILE_BY).then_some(Pair { number, volume })
+}
+
+pub fn filing_of(words: &[u64; CALL_WORDS]) -> Filing {
+    let [_, maker, set, year, usage, edition, family, fcl, cf, volume, life, ..] = *words;
     Filing {
         maker,
         set,
@@ -86,15 +103,18 @@ enum Role {
     Family,
     /// A figure with its greatest value.
     UpTo(u64),
+    /// A limit of a pair, with the two entries'.
+    Limit(u64, u64),
     Vintage,
     ShortYear,
     Amount,
 }
 
-use Role::{Amount, Edition, Family, Maker, OpenYear, Set, ShortYear, UpTo, Usage, Vintage};
+use Role::{Amount, Edition, Family, Limit, Maker, OpenYear, Set, ShortYear, UpTo, Usage, Vintage};
 
-/// The arguments of a filing, and of an amendment, in the order of the form.
-const FILING: &[Role] = &[
+/// The arguments of a filing by a pair: a filing's in the order of the form, and
+/// the pair.
+const FILING_BY: &[Role] = &[
     Maker,
     Set,
     OpenYear,
@@ -105,9 +125,13 @@ const FILING: &[Role] = &[
     UpTo(MAX_CF),
     UpTo(MAX_VOLUME),
     UpTo(MAX_LIFE),
+    Limit(Limits::SMALL.number(), Limits::LARGE.number()),
+    Limit(Limits::SMALL.volume(), Limits::LARGE.volume()),
 ];
+/// Of a filing, and of an amendment.
+const FILING: &[Role] = FILING_BY.split_at(FILING_BY.len() - 2).0;
 
-/// The arguments of each kind likewise.
+/// Of each kind.
 const ROLES: [&[Role]; KINDS] = [
     FILING,
     &[OpenYear],
@@ -117,6 +141,7 @@ const ROLES: [&[Role]; KINDS] = [
     FILING,
     &[],
     &[Maker, Set],
+    FILING_BY,
 ];
 
 /// A call that the book would accept under the table where it can, or one with
@@ -147,16 +172,13 @@ pub fn call_on(book: &Book, table: &Table, rng: &mut Rng, kind: usize) -> [u64; 
     words
 }
 
-/// Any of a call; in the telling years half of the time a filing or an
-/// amendment.
+/// Any of a call, a filing by a pair twice as often as others; in the telling
+/// years half of the time a filing, by a pair or not, or an amendment.
 pub fn kind_on(book: &Book, rng: &mut Rng) -> usize {
     if TELLING_YEARS.contains(&book.open_year) && rng.once_in(2) {
-        [FILE, AMEND][rng.index(2)]
+        [FILE, AMEND, FILE_BY][rng.index(3)]
     } else {
-        match rng.index(KINDS - 1) {
-            TEXT => COVER,
-            kind => kind,
-        }
+        CALLS[rng.index(CALLS.len())]
     }
 }
 
@@ -187,6 +209,9 @@ fn edge(book: &Book, rng: &mut Rng, words: &[u64; CALL_WORDS], role: Role, now: 
         Usage | Edition => rng.below(4),
         Family => [0, 62, 63, 64, 65][rng.index(5)],
         UpTo(most) => [0, 1, most, most + 1, most - 1][rng.index(5)],
+        Limit(small, large) => {
+            [0, small - 1, small, small + 1, large - 1, large, large + 1][rng.index(7)]
+        }
         // One year on either side of the last that is live, or open.
         Vintage if rng.once_in(2) => open.wrapping_sub(rng.between(5, 8)),
         ShortYear if rng.once_in(2) => open.wrapping_sub(rng.between(3, 6)),
@@ -207,7 +232,9 @@ fn amount_at_edge(book: &Book, rng: &mut Rng, words: &[u64; CALL_WORDS]) -> u64 
         Call::Apply(p) if rng.once_in(2) => figure(&book.shortages, p.maker, p.set, p.year),
         Call::Apply(p) => figure(&book.lots, p.maker, p.set, p.vintage),
         Call::Retire(p) => figure(&book.lots, p.maker, p.set, p.vintage),
-        Call::File(_) | Call::Amend(_) | Call::Close { .. } | Call::Cover(_) => None,
+        Call::File(_) | Call::Small(_) | Call::Amend(_) | Call::Close { .. } | Call::Cover(_) => {
+            None
+        }
     };
     let mg = lot.unwrap_or(1);
     match rng.below(4) {

@@ -1,10 +1,10 @@
 //! One book, one call and one table as a record, and the answer to it.
 
-use crate::calls::{call_of, call_on, kind_on, CALL_WORDS, COVER};
+use crate::calls::{call_of, call_on, filing_of, kind_on, pair_of, CALL_WORDS, COVER};
 use crate::words::{hold_answer, record};
 use second::book::Book;
 use second::generate::{books::Make, rng::Rng, tables};
-use second::postings::{post, Answer, Results};
+use second::postings::{file_by, post, Answer, Results};
 use second::standards::Table;
 use std::io::Read;
 
@@ -43,7 +43,8 @@ impl Case {
             make, table_make, ..
         } = self;
         let call = call_of(&self.call);
-        format!("a book {make:?}, a table {table_make:?}, {call:?}")
+        let pair = pair_of(&self.call);
+        format!("a book {make:?}, a table {table_make:?}, {call:?}, by {pair:?}")
     }
 
     pub fn record(&self) -> Vec<u8> {
@@ -64,12 +65,19 @@ impl Case {
         Ok(())
     }
 
+    fn post(&self, book: &mut Book) -> Answer {
+        match pair_of(&self.call) {
+            Some(pair) => file_by(book, &self.table, pair.limits(), &filing_of(&self.call)),
+            None => post(book, &self.table, &call_of(&self.call)),
+        }
+    }
+
     /// The answer in both, or the first difference in words.
     pub fn hold(&self, answers: &mut impl Read) -> Result<Answer, String> {
         let sound = self.book.is_sound();
         self.as_meant(sound)?;
         let mut after = self.book.clone();
-        let answer = post(&mut after, &self.table, &call_of(&self.call));
+        let answer = self.post(&mut after);
         let [refusal, first, second] = values(&answer);
         let head = [u64::from(sound), refusal, first, second];
         hold_answer(answers, NAMES, head, &after)?;

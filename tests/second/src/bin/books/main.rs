@@ -4,11 +4,12 @@
 //!
 //! PROGRAM reads records to the end of its input and ignores a last one that
 //! is cut short. A record is 3,617 words of a book, then a call's kind and
-//! ten arguments, then 144 words of a table, row by row, whatever the call: in
-//! all 30,176 bytes. Its answer is the book's soundness, the refusal or 0, two
+//! twelve arguments, then 144 words of a table, row by row, whatever the call: in
+//! all 30,192 bytes. Its answer is the book's soundness, the refusal or 0, two
 //! values, and the book after it. A word is 64 bits, low byte first. The kinds
-//! are 0 file, 1 close, 2 trade, 3 apply, 4 retire, 5 amend, 7 cover. One that
-//! is none ends PROGRAM with a message, and is tried first.
+//! are 0 file, 1 close, 2 trade, 3 apply, 4 retire, 5 amend, 7 cover, 8 a filing
+//! by a pair: after its ten arguments the largest number and the largest volume.
+//! One that is none ends PROGRAM with a message, and is tried first.
 //!
 //! One record in three is of kind 6, followed by as many bytes as its first
 //! argument says, at most 229,441. These are read as a text with the book lent,
@@ -22,6 +23,7 @@ mod asking;
 mod calls;
 mod case;
 mod covers;
+mod pairs;
 mod refused;
 mod tally;
 mod texts;

@@ -1,7 +1,7 @@
 //! Records that are none: each must get a message and no answer, nor may the
 //! good record after it.
 
-use crate::calls::{COVER, KINDS};
+use crate::calls::{FILE_BY, KINDS};
 use crate::case::Case;
 use crate::texts::{TextCase, MOST};
 use second::generate::rng::Rng;
@@ -12,12 +12,12 @@ use std::thread;
 
 /// Kinds that are none; a remainder or a narrower type takes each for one.
 const NO_KINDS: [u64; 9] = [
-    8,
+    9,
     11,
     15,
     1 << 8,
     (1 << 8) + 5,
-    (1 << 8) + 7,
+    (1 << 8) + 8,
     1 << 16,
     1 << 32,
     1 << 63,
@@ -63,4 +63,4 @@ fn run(program: &OsStr, input: &[u8]) -> io::Result<Output> {
     })
 }
 
-const _: () = assert!(COVER + 1 == KINDS && NO_KINDS[0] as usize == KINDS);
+const _: () = assert!(FILE_BY + 1 == KINDS && NO_KINDS[0] as usize == KINDS);

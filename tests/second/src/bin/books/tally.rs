@@ -1,8 +1,9 @@
 //! What the answers were.
 
-use crate::calls::{call_of, kind_of, KINDS};
+use crate::calls::{call_of, filing_of, kind_of, pair_of, KINDS};
 use crate::case::Case;
 use crate::covers::Covers;
+use crate::pairs::Pairs;
 use crate::texts::{Outcome, TextCase};
 use second::book::{cell, MAKERS};
 use second::postings::{Answer, Call, Filing, Refusal, Results};
@@ -14,13 +15,14 @@ pub struct Tally {
     pub books: u64,
     sound: u64,
     accepted: [u64; KINDS],
-    /// Accepted filings, and amendments, by their edition.
+    /// Accepted filings, by a pair or not, and amendments, by their edition.
     filed_under: [u64; 3],
     amended_under: [u64; 3],
     /// Accepted amendments whose part became 0, or changed its sign.
     to_nothing: u64,
     to_other_sign: u64,
     covers: Covers,
+    pairs: Pairs,
     refused: [u64; 21],
     tables: Tables,
     texts: Texts,
@@ -143,6 +145,9 @@ impl Tally {
             Err(refusal) => self.refused[usize::from(refusal.number())] += 1,
         }
         self.tables.count(case, answer);
+        if let Some(pair) = pair_of(&case.call) {
+            self.pairs.count(pair, &filing_of(&case.call), answer);
+        }
         match (call_of(&case.call), answer) {
             (Call::File(filing), Ok(_)) => self.filed_under[filing.edition as usize] += 1,
             (Call::Amend(amended), Ok(results)) => self.count_amended(case, &amended, results),
@@ -178,7 +183,7 @@ impl Tally {
     }
 
     pub fn by_kind(&self) -> String {
-        let [file, close, trade, apply, retire, amend, _, cover] = self.accepted;
+        let [file, close, trade, apply, retire, amend, _, cover, file_by] = self.accepted;
         let [ordinary, earlier, later] = self.filed_under;
         let amended = self.amended_under;
         let Tally {
@@ -187,16 +192,17 @@ impl Tally {
             to_nothing,
             to_other_sign,
             covers,
+            pairs,
             tables,
             texts,
             ..
         } = self;
         format!(
             "{sound} of {books} books sound; accepted: \
-             file {file} (by edition {ordinary}, {earlier}, {later}), \
+             file {file}, by a pair {file_by} (by edition {ordinary}, {earlier}, {later}), \
              amend {amend} (by edition {}, {}, {}; part to 0 {to_nothing}, to the other sign {to_other_sign}), \
              close {close}, trade {trade}, apply {apply}, retire {retire}, \
-             cover {cover} ({covers}); {tables}; texts: {texts}",
+             cover {cover} ({covers}); by a pair: {pairs}; {tables}; texts: {texts}",
             amended[0], amended[1], amended[2]
         )
     }

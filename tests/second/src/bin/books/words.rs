@@ -91,3 +91,48 @@ fn place_name(place: usize, names: [&str; HEAD]) -> String {
     let year = FIRST_YEAR + (at % YEARS) as u64;
     format!("{name} of cell {}, year {year}", at / YEARS)
 }
+
+#[cfg(test)]
+mod tests {
+    use super::*;
+    use crate::calls::{call_of, filing_of, pair_of, FILE_BY};
+    use second::postings::Call;
+
+    /// The book, a kind and twelve arguments, and the table.
+    #[test]
+    fn a_record_has_3_774_words() {
+        let mut call = [0; CALL_WORDS];
+        for (argument, word) in call.iter_mut().enumerate() {
+            *word = 100 + argument as u64;
+        }
+        call[0] = FILE_BY as u64;
+        let record = record(&Book::fresh(), &call, &Table::built_in());
+        assert_eq!(record.len(), 30_192);
+        let words: Vec<u64> = record.chunks_exact(BYTES).map(word).collect();
+        assert_eq!(words[3_617..3_630], call);
+        assert_eq!(words[3_630..3_636], Table::built_in().0[0]);
+    }
+
+    /// In the order of the form, and then the pair.
+    #[test]
+    fn a_filing_by_a_pair_has_twelve_arguments() {
+        let call: [u64; CALL_WORDS] = std::array::from_fn(|at| at as u64);
+        let line = Call::Amend(filing_of(&call)).to_string();
+        assert_eq!(
+            line,
+            "(amend (maker 1) (set 2) (year 3) (use 4) (edition 5) (family 6) (fcl 7) (cf 8) \
+             (volume 9) (life 10))"
+        );
+        let of_kind = |kind: usize| {
+            let mut call = call;
+            call[0] = kind as u64;
+            call
+        };
+        let pair = pair_of(&of_kind(FILE_BY)).expect("a pair");
+        assert_eq!((pair.number, pair.volume), (11, 12));
+        assert_eq!(call_of(&of_kind(FILE_BY)), Call::File(filing_of(&call)));
+        for kind in 0..FILE_BY {
+            assert!(pair_of(&of_kind(kind)).is_none());
+        }
+    }
+}

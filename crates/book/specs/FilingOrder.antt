@@ -1,7 +1,7 @@
 -- Card 1, "Filing order": the same filings, put to the same book in another order. `FilingOrder` is the card's
 -- sentence, `EachAlone` the reason for it; the proofs are in proofs/FilingOrder.antt.
--- A filing here may be an amendment (card 6), and under any pair of limits (card 10), so that the sentence holds of a list that mixes
--- them: no two of them are of one family. Each is handed a table of its own, accepted or not (card 7).
+-- A filing here may be an amendment (card 6), and under any pair of limits (card 10), so that the sentence holds of a list
+-- that mixes them: no two of them are of one family. Each is handed a table of its own, accepted or not (card 7).
 -- The card's book is sound and its filings are of one model year. Neither is asked here: a book that is not sound
 -- refuses every filing by 2, and a filing of another year than the open one is refused wherever it stands. What is
 -- asked is `Sized`: every book of the program is.

@@ -26,7 +26,7 @@ number_of YearNotOpen = 5
 number_of NoStandard = 6
 -- The family number is above 63, or above the limit that the filing is under (card 10).
 number_of UnknownFamily = 7
--- FCL, CF, volume or life is outside its limits, the volume above that of the filing (card 10) among them.
+-- FCL, CF, volume or life is outside its limits, or the volume is above the limit that the filing is under (card 10).
 number_of OutOfLimits = 8
 -- The family number is already filed in this cell this year.
 number_of AlreadyFiled = 9

@@ -23,8 +23,8 @@ const SHORTAGES: usize = LOTS + ledger::PLACES;
 
 const BOOK: usize = SHORTAGES + ledger::PLACES;
 
-// A call's kind, after the book; then its twelve arguments, in document 01's order, a filing's pair of limits last. The kind is
-// a number, and a refusal's is 0 where there is none: so the second implementation writes and reads them.
+// A call's kind, after the book; then its twelve arguments, in document 01's order, a filing's pair of limits last. The kind
+// is a number, and a refusal's is 0 where there is none: so the second implementation writes and reads them.
 const KIND: usize = BOOK;
 
 const ARGUMENTS: usize = KIND + 1;

@@ -1,22 +1,19 @@
 -- Card 6: what an accepted amendment replaces, which amendments are accepted, and that in the book the last one counts.
 use Prim.Native.Nat.{ℕ, ◌+◌, ◌*◌, ◌<◌}
-use mathlib.Core.Bool.{Bool, true, false, not, true≢false}
+use mathlib.Core.Bool.{Bool, true, false, true≢false}
 use mathlib.Core.List.{List, [], ◌∷◌, ◌++◌}
 use mathlib.Core.Path.{◌≡◌, refl, sym, ◌∙◌, ap, subst}
 use native.Mathlib.Omega.{arith}
-use borrow.Author.Tests.{ne_eqb, not-true}
-use lib.Dec.{eqb}
 use lib.ListN.{get_or, set as store, length}
 use lib.Seq.{get_or-set_same, set-get_or, set-set}
 use lib.IntN.{ℤ}
-use Rattle.figuring.proofs.BoolLaws.{both}
 use Rattle.figuring.specs.Tables.{Table, accepted_table}
 use Rattle.book.specs.Filings.{with_purpose}
 use Rattle.book.specs.Limits.{amends, large_entry, in_large_entry}
 use Rattle.book.specs.Sizes.{families}
 use Rattle.book.specs.Ledger.{cell, with_mark}
 use Rattle.book.specs.Soundness.{sound}
-use Rattle.book.specs.Refusals.{Verdict, Row, or_else, first_refusal, number_of, refusal_in}
+use Rattle.book.specs.Refusals.{Verdict, Row, first_refusal, refusal_in}
 use Rattle.book.specs.Postings.{ordinary_for, part_for, part_beside, filing_cell, stored}
 use Rattle.book.specs.Rules.{posted, done, outcome, rows_for, head_rows, own_rows, fit_row, figure_rows, file_rows, filed_row}
 use Rattle.book.specs.Demand3.{is_accepted}
@@ -29,9 +26,7 @@ use Rattle.book.specs.declared.kinds.Filing.{Filing}
 use Rattle.book.specs.declared.kinds.Purpose.{Purpose}
 use Rattle.book.specs.declared.answers.Posted.{Posted}
 use Rattle.std.specs.Prelude.{Ok, Err}
-use Rattle.book.proofs.TableLaws.{alike, same_after, by_verdict}
-use Rattle.book.proofs.CallLaws.{none_gives}
-use Rattle.book.proofs.RefusalLaws.{number_above_0}
+use Rattle.book.proofs.TableLaws.{alike, numbered, told_after, same_after, by_verdict}
 use Rattle.book.proofs.FileFacts.{Fileable, fileable}
 use Rattle.book.proofs.FilingLaws.{mark_here, still_sound}
 use Rattle.book.proofs.MarkLaws.{marked_same, mark_kept}
@@ -49,31 +44,12 @@ replaces t b f =
     rw (k, m))
 
 -- ---- which are accepted
--- the number of a verdict, 0 where it accepts
-abbrev pub numbered : Verdict → ℕ
-numbered (Ok u) = 0
-numbered (Err r) = number_of r
-
--- 18 or none in the place of none or 9, after rows that give neither; none gives 0
+-- 18 or none in the place of none or 9
 in_place :
-    (is_filed : Bool) (xs : List Row) → none_gives 9 xs ≡ true
-    → numbered (first_refusal (xs ++ filed_row true is_filed ∷ []))
-    ≡ in_place_of9 (numbered (first_refusal (xs ++ filed_row false is_filed ∷ [])))
-in_place true [] e = refl
-in_place false [] e = refl
-in_place is_filed (x ∷ xs) e = go x.test (in_place is_filed xs w.1)
-  where
-    w : (not (eqb (number_of x.why) 9) ≡ true) × (none_gives 9 xs ≡ true)
-    w = both (not (eqb (number_of x.why) 9)) (none_gives 9 xs) e
-
-    go :
-        (t : Bool)
-        → numbered (first_refusal (xs ++ filed_row true is_filed ∷ []))
-        ≡ in_place_of9 (numbered (first_refusal (xs ++ filed_row false is_filed ∷ [])))
-        → numbered (or_else t x.why (first_refusal (xs ++ filed_row true is_filed ∷ [])))
-        ≡ in_place_of9 (numbered (or_else t x.why (first_refusal (xs ++ filed_row false is_filed ∷ []))))
-    go true ih = rw (ne_eqb (number_of x.why) 0 (λ z. omega (arith, number_above_0 x.why)), not-true (eqb (number_of x.why) 9) w.0)
-    go false ih = ih
+    (is_filed : Bool)
+    → numbered (first_refusal (filed_row true is_filed ∷ [])) ≡ in_place_of9 (numbered (first_refusal (filed_row false is_filed ∷ [])))
+in_place true = refl
+in_place false = refl
 
 -- the rows before the last, which read neither the marks nor, by the large limits, whether the call amends
 abbrev rows_before : Table → Book → Filing → List Row
@@ -95,7 +71,8 @@ pub stands_in_place : (t : Table) (b : Book) (f : Filing) → StandsInPlaceOf9 t
 unfolding rows_for head_rows own_rows file_rows
 stands_in_place t b f =
     number_of_lem t b (with_purpose Purpose.Amend f)
-    ∙ in_place (is_filed b (family_of f)) (rows_before t b f) refl
+    ∙ told_after in_place_of9 (rows_before t b f) (filed_row true (is_filed b (family_of f)) ∷ [])
+    (filed_row false (is_filed b (family_of f)) ∷ []) refl (in_place (is_filed b (family_of f)))
     ∙ ap in_place_of9 (sym (number_of_lem t b (with_purpose large_entry f)))
 
 -- ---- the last one counts

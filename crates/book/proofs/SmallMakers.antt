@@ -1,21 +1,20 @@
 -- Card 10: what a filing gets under any pair of limits, beside what it gets in the large entry.
 use Prim.Native.Nat.{ℕ, ◌≤◌, min}
-use mathlib.Core.Bool.{Bool, true, false, not, ◌&&◌, ◌||◌, or-true}
+use mathlib.Core.Bool.{Bool, true, false, not, ◌||◌, or-true}
 use mathlib.Core.List.{List, [], ◌∷◌, ◌++◌}
 use mathlib.Core.Path.{◌≡◌, refl, sym, ◌∙◌, ap}
 use native.Mathlib.Omega.{arith}
-use lib.Dec.{eqb, ltb, leb}
-use borrow.Author.Tests.{lt-leb, lt-ltb, le-ltb, ltb-true, ltb-false, leb-false, not-false, eqb-true}
+use lib.Dec.{ltb, leb}
+use borrow.Author.Tests.{lt-leb, lt-ltb, le-ltb, ltb-true, ltb-false, leb-false, not-false}
 use lib.ListN.{take}
 use Rattle.figuring.specs.Tables.{Table, accepted_table}
 use Rattle.figuring.specs.Parts.{within_limits}
-use Rattle.figuring.proofs.BoolLaws.{both}
 use Rattle.figuring.proofs.PartLaws.{limited}
 use Rattle.book.specs.Sizes.{families}
 use Rattle.book.specs.Limits.{large_limits, small_limits}
 use Rattle.book.specs.Filings.{with_purpose}
 use Rattle.book.specs.Soundness.{sound}
-use Rattle.book.specs.Refusals.{Verdict, Row, ◌⇒◌, or_else, first_refusal, number_of, refusal_in}
+use Rattle.book.specs.Refusals.{Verdict, Row, ◌⇒◌, first_refusal, number_of, refusal_in}
 use Rattle.book.specs.Postings.{ordinary_for, part_beside}
 use Rattle.book.specs.Rules.{posted, done, outcome, rows_for, head_rows, own_rows, fit_row, figure_rows, file_rows, filed_row}
 use Rattle.book.specs.Amendments.{filed}
@@ -30,7 +29,8 @@ use Rattle.book.specs.declared.answers.Refusal.{Refusal}
 use Rattle.book.specs.declared.answers.Refusal.TheVariants.{UnknownFamily, OutOfLimits}
 use Rattle.std.specs.Prelude.{Ok, Err}
 use Rattle.book.proofs.NeverUnsound.{refuses_not}
-use Rattle.book.proofs.Amendments.{numbered, number_of_lem}
+use Rattle.book.proofs.TableLaws.{numbered, leaves, told_after}
+use Rattle.book.proofs.Amendments.{number_of_lem}
 
 -- what is asked from 7 on
 from_seven : Bool → Bool → Bool → List Row
@@ -46,30 +46,7 @@ same_beside : (a b c : Bool) → (a ≡ false → b ≡ c) → (a || b) ≡ (a |
 same_beside true b c h = refl
 same_beside false b c h = h refl
 
--- ---- the first of two refusals
--- none of these rows is later than n
-abbrev all_before : ℕ → List Row → Bool
-all_before n [] = true
-all_before n (x ∷ xs) = eqb (first_of (number_of x.why) n) (number_of x.why) && all_before n xs
-
-earlier_stands :
-    (n : ℕ) (xs ys zs : List Row) → all_before n xs ≡ true
-    → numbered (first_refusal ys) ≡ first_of (numbered (first_refusal zs)) n
-    → numbered (first_refusal (xs ++ ys)) ≡ first_of (numbered (first_refusal (xs ++ zs))) n
-earlier_stands n [] ys zs a e = e
-earlier_stands n (x ∷ xs) ys zs a e = go x.test (earlier_stands n xs ys zs w.1 e)
-  where
-    w : (eqb (first_of (number_of x.why) n) (number_of x.why) ≡ true) × (all_before n xs ≡ true)
-    w = both (eqb (first_of (number_of x.why) n) (number_of x.why)) (all_before n xs) a
-
-    go :
-        (t : Bool)
-        → numbered (first_refusal (xs ++ ys)) ≡ first_of (numbered (first_refusal (xs ++ zs))) n
-        → numbered (or_else t x.why (first_refusal (xs ++ ys)))
-        ≡ first_of (numbered (or_else t x.why (first_refusal (xs ++ zs)))) n
-    go true ih = sym (eqb-true (first_of (number_of x.why) n) (number_of x.why) w.0)
-    go false ih = ih
-
+-- ---- 7 and 8, beside what other tests of these rows give
 seven_first : (m v w r s : Bool) → numbered (first_refusal (from_seven true v r)) ≡ first_of (numbered (first_refusal (from_seven m w s))) 7
 unfolding from_seven
 seven_first true v w r s = refl
@@ -154,12 +131,12 @@ module _ (t : Table) (b : Book) (f : Filing) where
   -- ---- the claims
   -- what is asked from 7 on, where it gives n or what the large limits give earlier
   stands_first :
-      (n : ℕ) (number volume : Bool) → all_before n early ≡ true
+      (n : ℕ) (number volume : Bool) → leaves (λ m. first_of m n) early ≡ true
       → numbered (first_refusal (asked number volume))
       ≡ first_of (numbered (first_refusal (asked (over_number large_limits) (over_volume large_limits)))) n
       → numbered (first_refusal (early ++ asked number volume)) ≡ first_of (refusal_in (filed t b f).answer) n
   stands_first n number volume a e =
-      earlier_stands n early (asked number volume) (asked (over_number large_limits) (over_volume large_limits)) a e
+      told_after (λ m. first_of m n) early (asked number volume) (asked (over_number large_limits) (over_volume large_limits)) a e
       ∙ ap (λ (r : ℕ). first_of r n) (sym (number_by large_limits))
 
   pub under_any_pair : (l : Limits) → UnderAnyPair t b f l

@@ -1,11 +1,14 @@
 -- Laws of the ordered rows: what a verdict says of them, what it makes of a call, and that the head comes before the call's own.
-use mathlib.Core.Bool.{Bool, true, false}
+use Prim.Native.Nat.{ℕ}
+use mathlib.Core.Bool.{Bool, true, false, ◌&&◌}
 use mathlib.Core.List.{List, [], ◌∷◌, ◌++◌}
 use mathlib.Core.Path.{◌≡◌, refl, sym, ◌∙◌, ap, subst}
-use borrow.Author.Tests.{not-false}
+use borrow.Author.Tests.{not-false, eqb-true}
+use lib.Dec.{eqb}
+use Rattle.figuring.proofs.BoolLaws.{both}
 use Rattle.figuring.specs.Tables.{Table}
 use Rattle.book.specs.Soundness.{sound}
-use Rattle.book.specs.Refusals.{Verdict, Row, or_else, first_refusal}
+use Rattle.book.specs.Refusals.{Verdict, Row, or_else, first_refusal, number_of}
 use Rattle.book.specs.Rules.{posted, rows_for, head_rows, table_rows, own_rows, done, outcome, answered, refused_with}
 use Rattle.book.specs.declared.ledger.Book.{Book}
 use Rattle.book.specs.declared.kinds.Call.{Call}
@@ -68,6 +71,34 @@ pub same_after :
     (xs ys zs : List Row) → first_refusal ys ≡ first_refusal zs → first_refusal (xs ++ ys) ≡ first_refusal (xs ++ zs)
 same_after [] ys zs e = e
 same_after (x ∷ xs) ys zs e = ap (or_else x.test x.why) (same_after xs ys zs e)
+
+-- the number of a verdict, 0 where it accepts
+abbrev pub numbered : Verdict → ℕ
+numbered (Ok u) = 0
+numbered (Err r) = number_of r
+
+-- a function of numbers that leaves those of some rows as they are
+abbrev pub leaves : (ℕ → ℕ) → List Row → Bool
+leaves g [] = true
+leaves g (x ∷ xs) = eqb (g (number_of x.why)) (number_of x.why) && leaves g xs
+
+-- if it tells the number of one verdict by that of another, it does so after such rows too
+pub told_after :
+    (g : ℕ → ℕ) (xs ys zs : List Row) → leaves g xs ≡ true
+    → numbered (first_refusal ys) ≡ g (numbered (first_refusal zs))
+    → numbered (first_refusal (xs ++ ys)) ≡ g (numbered (first_refusal (xs ++ zs)))
+told_after g [] ys zs h e = e
+told_after g (x ∷ xs) ys zs h e = go x.test (told_after g xs ys zs w.1 e)
+  where
+    w : (eqb (g (number_of x.why)) (number_of x.why) ≡ true) × (leaves g xs ≡ true)
+    w = both (eqb (g (number_of x.why)) (number_of x.why)) (leaves g xs) h
+
+    go :
+        (t : Bool)
+        → numbered (first_refusal (xs ++ ys)) ≡ g (numbered (first_refusal (xs ++ zs)))
+        → numbered (or_else t x.why (first_refusal (xs ++ ys))) ≡ g (numbered (or_else t x.why (first_refusal (xs ++ zs))))
+    go true ih = sym (eqb-true (g (number_of x.why)) (number_of x.why) w.0)
+    go false ih = ih
 
 -- two outcomes of one verdict are alike where both its ways are
 pub alike :

@@ -1,28 +1,21 @@
 -- Laws of leading digits and of what digits are worth.
-use Prim.Native.Nat.{ℕ, zero, suc, ◌+◌, ◌*◌, ◌^◌, ◌≤◌, ◌<◌}
-use native.Mathlib.Nat.{le_of_suc-le-suc, not-suc-le-zero, pow-suc}
+use Prim.Native.Nat.{ℕ, zero, suc, ◌+◌, ◌-◌, ◌*◌, ◌^◌, ◌≤◌, ◌<◌}
+use native.Mathlib.Nat.{le_of_suc-le-suc, not-suc-le-zero, pow-suc, pow-le-pow_right}
+use native.Mathlib.Numerals.{add-one}
 use native.Mathlib.Omega.{arith}
 use mathlib.Core.Bool.{Bool, true, false, cond}
 use mathlib.Core.Path.{◌≡◌, refl, sym, ap, ◌∙◌}
 use mathlib.Core.List.{List, [], ◌∷◌}
 use lib.Dec.{leb}
 use lib.ListN.{length, get_or, take}
-use lib.Seq.{get_or-take}
+use lib.Seq.{get_or-take, take-suc}
 use borrow.Author.Tests.{le-leb, lt-leb, leb-true, lt-ltb, eq-eqb, ne_eqb}
 use Rattle.text.specs.Numeral.{digit, leading, worth, value, number}
 use Rattle.figuring.proofs.BoolLaws.{both}
-use Rattle.std.proofs.Common.{Option, Some, None, Result, Ok, Err, rules}
-use Rattle.std.specs.Prelude.{MatchResult}
-use Rattle.std.specs.Result.{result_ok}
-use Rattle.std.specs.Int.{IsInRange}
-use Rattle.std.specs.Str.{IsUtf8}
-use Rattle.std.specs.Str.Parse.{ParsesUnsigned}
-use Rattle.std.proofs.lemmas.Str.{IsUtf8-from_ascii}
-use Rattle.std.proofs.lemmas.Str.Ascii.{IsAscii-from_reads}
-use Rattle.std.proofs.lemmas.Str.Parse.{FoldsDigits, IsNumeralModel, numerals_by_fold, tells_by_index, digits_value_short, parse_gives}
+use Rattle.std.proofs.Common.{Some, None}
 use Rattle.std.specs.Char.{is_ascii_digit}
 use Rattle.std.specs.List.{take_while}
-use Rattle.std.proofs.lemmas.List.Sums.{take_while-cons}
+use Rattle.std.proofs.lemmas.List.Sums.{take_while-cons, fold-append}
 
 pub is_digit : {c : ℕ} → 48 ≤ c → c ≤ 57 → digit c ≡ true
 is_digit {c} a b = rw (le-leb 48 c a, le-leb c 57 b)
@@ -98,48 +91,30 @@ lead_again (c ∷ s) = go (digit c) refl (lead_again s)
 pub lead_get : (s : List ℕ) (j : ℕ) → j < length (leading s) → get_or (leading s) j 0 ≡ get_or s j 0
 lead_get s j h = ap (λ (l : List ℕ). get_or l j 0) (sym (lead_take s)) ∙ get_or-take (length (leading s)) s j 0 h
 
--- ---- std's `parse` of them
-folds : FoldsDigits worth
-unfolding worth
-folds = search rules
+-- ---- a loop over digits
+-- v is what the first i of them are worth
+pub record Worth (s : List ℕ) (v i : ℕ) : Type 0 where
+  pub value_is : v ≡ value (take i s)
+  pub below : v < 10 ^ i
 
-abbrev are_digits : List ℕ → Type 0
-are_digits ds = (i : ℕ) → i < length ds → IsInRange 48 57 (get_or ds i 0)
+pub nothing_yet : (s : List ℕ) → Worth s 0 0
+unfolding value worth
+nothing_yet s = record { value_is = refl; below = omega arith }
 
-own : IsNumeralModel are_digits value
-unfolding value
-own = numerals_by_fold are_digits tells_by_index worth folds
+-- so many are worth less than 10 ^ 18
+pub fits_18 : (k : ℕ) → k ≤ 18 → 10 ^ k ≤ 1000000000000000000
+fits_18 k h = pow-le-pow_right (omega arith) h
 
-lead_are : (s : List ℕ) → are_digits (leading s)
-lead_are s i h = all_digits i (lead_again s) h
-
-pub lead_utf8 : (s : List ℕ) → IsUtf8 (take (length (leading s)) s)
-lead_utf8 s =
-    rw (lead_take s)
-    (IsUtf8-from_ascii (leading s)
-    (IsAscii-from_reads (leading s) (length (leading s)) (omega arith) (λ k h. omega (arith, (lead_are s k h).1))))
-
-pub lead_parsed :
-    {E : Type 0} (s : List ℕ) (r : Result ℕ E)
-    → 0 < length (leading s) → length (leading s) ≤ 18
-    → ParsesUnsigned 64 10 (take (length (leading s)) s) r
-    → r ≡ Ok (value (leading s))
-lead_parsed s r p l h =
-    parse_gives own 64 (leading s) r (rw (lead_take s) at h) (lead_are s) p
-    (omega (arith, digits_value_short own (leading s) 18 (lead_are s) l))
-
--- what a Result's two cases say of its value
-module _ {A E : Type 0} (P : A → Type 0) (Q : E → Type 0) where
-  pub if_none : (r : Result A E) → MatchResult r P Q → result_ok r ≡ None → (e : E) × Q e
-  if_none (Ok a) m e = absurd cc
-  if_none (Err e) m h = (e, m)
-
-  pub if_some : (r : Result A E) {a : A} → MatchResult r P Q → result_ok r ≡ Some a → P a
-  if_some (Ok b) {a} m e = let q : b ≡ a = cc in rw q at m
-  if_some (Err e) m h = absurd cc
-
-pub none_or_some : {A : Type 0} {o : Option A} {a : A} → o ≡ None → o ≡ Some a → ⊥
-none_or_some e h = absurd cc
+pub one_more :
+    {s : List ℕ} {v i : ℕ} → leading s ≡ s → i < length s → Worth s v i
+    → Worth s (v * 10 + (get_or s i 0 - 48)) (i + 1)
+unfolding value worth
+one_more {s} {v} {i} e h w =
+    let d = all_digits i e h in
+    record {
+      value_is = rw (add-one i, take-suc s i 0 h, fold-append, w.value_is) refl;
+      below = rw (add-one i) (worth_bound v (get_or s i 0 - 48) i w.below (omega (arith, d.1)));
+    }
 
 module _ (most : ℕ) (s : List ℕ) where
   pub none_short : length (leading s) ≡ 0 → number most s ≡ None

@@ -1,17 +1,22 @@
 -- Laws of what is held of a line: a run of its bytes held at once, and a chunk's first line feed.
-use Rattle.std.specs.Prelude.{Option, Some, None, fold, min}
-use Rattle.std.specs.Prelude.{Result, Ok}
-use Rattle.std.specs.Io.KnownBytes.{WriteAppends}
+use Rattle.std.specs.Prelude.{Option, Some, None, fold, min, replicate}
 use Rattle.std.specs.Borrow.{Bor}
-use Prim.Native.Nat.{ℕ, zero, suc, ◌-◌}
+use Rattle.std.proofs.Math.Nat.{min_comm, min-le_left, min-le_right}
+use Rattle.std.proofs.lemmas.List.{drop-replicate, drop_at, length-take, take_min}
+use Rattle.std.proofs.lemmas.Slice.{take-put_mid}
+use Prim.Native.Nat.{ℕ, zero, suc, ◌+◌, ◌-◌, ◌≤◌}
 use native.Mathlib.Omega.{arith}
 use mathlib.Core.Path.{◌≡◌, refl, sym, ap, ◌∙◌}
 use mathlib.Core.List.{List, [], ◌∷◌, ◌++◌, append_assoc, append-nil}
-use lib.ListN.{length, take, length-append}
+use lib.ListN.{length, take, drop, length-append}
+use lib.Seq.{length-take-le}
+use borrow.Rule.Slice.PartMut.{put_mid}
 use borrow.Author.Tests.{lt-ltb, le-ltb, ne_eqb}
 use Rattle.figuring.specs.Tables.{Table}
 use Rattle.book.specs.declared.ledger.Book.{Book}
 use Rattle.book.specs.declared.kinds.Call.{Call}
+use Rattle.text.specs.declared.held.Held.TheInside.{Inside}
+use Rattle.text.specs.Held.{HasZeros, held_in}
 use Rattle.text.specs.Line.{line_of}
 use Rattle.text.specs.Answers.{answer_to}
 use Rattle.text.specs.Desk.{Terminal, takes_all, held_with, most_held, line_feed}
@@ -36,11 +41,46 @@ held_run held (b ∷ s) (suc k) e =
     rw (lt-ltb (length held) most_held (omega arith))
     (held_run (held ++ (b ∷ [])) s k (rw length-append (omega arith)) ∙ append_assoc held (b ∷ []) (take k s))
 
-pub held_written :
-    {E : Type 0} (held more held' : List ℕ) {r : Result ℕ E} → WriteAppends (Some held) (Some held') r more
-    → r ≡ Ok (min (most_held - length held) (length more)) → held' ≡ fold held_with held more
-held_written held more held' w e =
-    rw e at w ∙ sym (held_run held more (min (most_held - length held) (length more)) refl)
+-- of a line's first bytes as many as there is room for
+pub first_held : (line : List ℕ) → fold held_with [] line ≡ take most_held line
+first_held line = held_run [] line (min most_held (length line)) refl ∙ take_min most_held line
+
+-- bytes copied behind those that are held, as many as there is room for
+module _ {h : Inside} (z : HasZeros h) (more part : List ℕ) (n : ℕ)
+    (n_is : n ≡ min (length more) (most_held - h.len)) (part_is : part ≡ take n more) where
+  abbrev pub after : Inside
+  after = record { bytes = put_mid h.len (h.len + n - h.len) h.bytes part; len = h.len + n }
+
+  part_long : length part ≡ n
+  part_long = rw part_is (length-take-le n more (omega (arith, n_is, min-le_left (length more) (most_held - h.len))))
+
+  room : h.len ≤ length h.bytes
+  room =
+      omega (arith, sym (length-take h.len h.bytes) ∙ z.len_is, min-le_right h.len (length h.bytes))
+
+  held_then : held_in after ≡ held_in h ++ part
+  held_then = take-put_mid h.len (h.len + n - h.len) h.bytes part (h.len + n) (omega (arith, part_long)) room
+
+  -- and behind them there are zeros still
+  zeros_left : replicate (most_held - (h.len + n)) 0 ≡ drop (h.len + n - h.len) (drop h.len h.bytes)
+  zeros_left =
+      sym
+      (ap (drop (h.len + n - h.len))
+      (ap (drop h.len) (sym z.bytes_are) ∙ drop_at (take h.len h.bytes) (replicate (most_held - h.len) 0) h.len z.len_is)
+      ∙ drop-replicate (h.len + n - h.len) (most_held - h.len) 0
+      ∙ ap (λ k. replicate k 0) (omega arith))
+
+  pub held_more : held_in after ≡ fold held_with (held_in h) more
+  held_more =
+      held_then
+      ∙ rw part_is (sym (held_run (held_in h) more n (n_is ∙ min_comm (length more) (most_held - h.len) ∙ rw z.len_is refl)))
+
+  pub zeros_more : HasZeros after
+  zeros_more =
+      record {
+        len_is = rw (held_then, length-append, z.len_is, part_long) refl;
+        bytes_are = rw (held_then, append_assoc) (ap (λ s. take h.len h.bytes ++ (part ++ s)) zeros_left);
+      }
 
 -- so a terminal takes a run with no line feed in it
 run_taken :

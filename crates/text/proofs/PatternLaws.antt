@@ -5,9 +5,9 @@ use native.Mathlib.Numerals.{add-one}
 use mathlib.Core.Bool.{Bool, true, false, cond, ◌&&◌}
 use mathlib.Core.Path.{◌≡◌, refl, sym, ap, ◌∙◌}
 use mathlib.Core.List.{List, [], ◌∷◌, ◌++◌, append_assoc, append-nil}
-use lib.ListN.{length, take, drop, set, replicate, length-replicate, length-set}
+use lib.ListN.{length, take, drop, set, replicate, length-drop, length-replicate, length-set}
 use lib.Seq.{take-suc-set, take_all}
-use borrow.Author.Tests.{ne_eqb, eqb-false}
+use borrow.Author.Tests.{ne_eqb, eqb-false, ltb-true}
 use Rattle.std.specs.Cmp.Lexicographic.{pointwise}
 use Rattle.text.specs.FirstLine.{Parted}
 use Rattle.text.specs.Lines.{Lacks}
@@ -16,7 +16,8 @@ use Rattle.std.proofs.Common.{Option, Some, None}
 use Rattle.std.proofs.lemmas.List.{take_rest}
 use Rattle.std.proofs.lemmas.Option.{none-some, same_Some}
 use Rattle.text.specs.Numeral.{number, proper, leading, value}
-use Rattle.text.specs.Pattern.{fit, hashes, on_number, prepended, hash}
+use Rattle.text.specs.Pattern.{fit, hashes, on_byte, on_number, prepended, hash}
+use Rattle.figuring.proofs.BoolLaws.{both}
 use Rattle.text.proofs.DigitLaws.{lead_length}
 
 pub number_length : (most : ℕ) (s : List ℕ) (v d : ℕ) → number most s ≡ Some (v, d) → d ≤ length s
@@ -26,6 +27,57 @@ number_length most s v d e = go (proper most (leading s)) e
     go : (b : Bool) → ◌≡◌ {A = Option (ℕ × ℕ)} (cond b (Some (value (leading s), length (leading s))) None) (Some (v, d)) → d ≤ length s
     go true q = let z = same_Some _ _ q in let w : length (leading s) ≡ d = ap (λ (r : ℕ × ℕ). r.1) z in omega (arith, lead_length s)
     go false q = absurd (none-some _ q)
+
+number_some : (most : ℕ) (s : List ℕ) (v d : ℕ) → number most s ≡ Some (v, d) → 0 < d
+unfolding number
+number_some most s v d e = go (proper most (leading s)) refl e
+  where
+    go :
+        (b : Bool) → proper most (leading s) ≡ b
+        → ◌≡◌ {A = Option (ℕ × ℕ)} (cond b (Some (value (leading s), length (leading s))) None) (Some (v, d)) → 0 < d
+    go true p q =
+        let w : length (leading s) ≡ d = ap (λ (r : ℕ × ℕ). r.1) (same_Some _ _ q) in
+        omega (arith, ltb-true 0 (length (leading s)) (both _ _ p).0)
+    go false p q = absurd (none-some _ q)
+
+-- ---- a text that is shorter than a pattern does not fit it
+-- f is what the rest of the pattern does with the rest of the text
+short_number :
+    (most m : ℕ) (s : List ℕ) (f : List ℕ → Option (List ℕ)) → length s ≤ m → ((r : List ℕ) → length r < m → f r ≡ None)
+    → on_number (number most s) (λ v k. prepended (v ∷ []) (f (drop k s))) ≡ None
+short_number most m s f h none = go (number most s) refl
+  where
+    go :
+        (o : Option (ℕ × ℕ)) → number most s ≡ o → on_number o (λ v k. prepended (v ∷ []) (f (drop k s))) ≡ None
+    go None e = refl
+    go (Some (v, d)) e =
+        let l : length (drop d s) < m =
+        rw length-drop (omega (arith, h, number_some most s v d e, number_length most s v d e)) in
+        rw (none (drop d s) l) refl
+
+short_byte :
+    (c m : ℕ) (s : List ℕ) (f : List ℕ → Option (List ℕ)) → length s ≤ m → ((r : List ℕ) → length r < m → f r ≡ None)
+    → on_byte c s f ≡ None
+short_byte c m [] f h none = refl
+short_byte c m (b ∷ s) f h none = go (eqb b c)
+  where
+    go : (x : Bool) → cond x (f s) None ≡ None
+    go true = none s (omega arith)
+    go false = refl
+
+short_fits_not : (most : ℕ) (p s : List ℕ) → length s < length p → fit most p s ≡ None
+unfolding fit
+short_fits_not most [] s h = absurd (omega arith)
+short_fits_not most (c ∷ p) s h =
+    go (eqb c hash) (short_number most (length p) s (fit most p) (omega arith) (short_fits_not most p))
+    (short_byte c (length p) s (fit most p) (omega arith) (short_fits_not most p))
+  where
+    go : (x : Bool) {a b : Option (List ℕ)} → a ≡ None → b ≡ None → cond x a b ≡ None
+    go true e f = e
+    go false e f = f
+
+pub too_short : (most : ℕ) (p s : List ℕ) → length s < length p → None ≡ fit most p s
+too_short most p s h = sym (short_fits_not most p s h)
 
 prepended_twice : (a b : List ℕ) (o : Option (List ℕ)) → prepended a (prepended b o) ≡ prepended (a ++ b) o
 prepended_twice a b None = refl
@@ -146,4 +198,4 @@ module _ {N most : ℕ} {p s n : List ℕ} {i : ℕ} {form rest : List ℕ} (hal
         sym (half.goes ∙ rw (fit_end most form rest none_left, e, t, append-nil n))
 
 -- what the reader of a pattern needs, but for the step of its loop
-pub ruleset reads_pattern = (start, hash_left, other_word, no_number, number_length, other_end, whole)
+pub ruleset reads_pattern = (too_short, start, hash_left, other_word, no_number, number_length, other_end, whole)

@@ -4,6 +4,7 @@ use Rattle.std.specs.Prelude.{ℕ, ◌≤◌, Bool, true, false, cond, ◌≡◌
 use Rattle.std.proofs.lemmas.List.Edits.{sets as overwritten}
 use Rattle.figuring.specs.Tables.{Table}
 use Rattle.book.specs.declared.ledger.Book.{Book}
+pub use Rattle.text.specs.Held.{most_held}
 use Rattle.text.specs.declared.desk.Desk.{Desk}
 use Rattle.text.specs.declared.page.Page.{Page}
 use Rattle.text.specs.Answers.{text_of, answer_to}
@@ -14,10 +15,6 @@ pub record Terminal : Type 0 where
   pub book : Book
   pub held : List ℕ
   pub said : List ℕ
-
--- a line is held up to 161 bytes, one more than the longest form has: they stand for any longer line
-abbrev pub most_held : ℕ
-most_held = 161
 
 -- the code of a line feed
 abbrev pub line_feed : ℕ
@@ -60,6 +57,10 @@ at_desk d = record { book = d.book; held = d.held; said = [] }
 
 abbrev pub open_desk : Book → Desk
 open_desk b = record { book = b; held = [] }
+
+-- in the midst of a line
+abbrev pub in_line : Book → List ℕ → Desk
+in_line b line = record { book = b; held = take most_held line }
 
 -- the desk d' after a call is a terminal's, and the buffer starts with the n bytes that the terminal has said
 pub record Serves (x : Terminal) (out : List ℕ) (n : ℕ) (d' : Desk) (out' : List ℕ) : Type 0 where

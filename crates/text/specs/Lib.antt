@@ -5,6 +5,7 @@ pub mod Line
 pub mod Rendered
 pub mod Placing
 pub mod Answers
+pub mod Held
 pub mod Desk
 pub mod Serving
 pub mod Lines

@@ -127,9 +127,16 @@ pub fn edges_of_a_book() -> bool
     true
 }
 
-// A copy of a desk is the same desk, and copying never fails.
+// A clone of a desk is the same desk, and cloning never fails.
 pub fn copies_are_same(desk: &Desk) -> Result<Desk, AllocError>
     ensures { result ≡ Ok desk.now }
 {
     desk.clone()
+}
+
+// And so is a copy.
+pub fn desk_is_copied(desk: &Desk) -> Desk
+    ensures { result ≡ desk.now }
+{
+    *desk
 }

@@ -2,7 +2,7 @@
 // is one for the whole run; a desk does not hold it, so each call is handed it.
 ghost use Rattle.std.specs.Prelude.{◌≡◌, ◌*◌, ◌/◌, leb, length};
 ghost use Rattle.text.specs.Answers.{answer_room, posted_line, text_of};
-ghost use Rattle.text.specs.Desk.{RepliedBy, ServedBy, at_desk, ends, open_desk, takes_all};
+ghost use Rattle.text.specs.Desk.{RepliedBy, ServedBy, at_desk, ends, in_line, open_desk, takes_all};
 ghost use Rattle.text.specs.Placing.{Adds, HasRoom};
 
 use crate::answering::{ANSWER_ROOM, line_in, write_answer};
@@ -14,8 +14,8 @@ use figuring::tables::Table;
 
 // The book, which each call is posted to in place, and what is held of a line that has not ended yet. Two desks are
 // compared by what they hold: `ByWhatIsHeld`. A caller may keep a desk as it stands, and go on from it later: a copy is
-// the same desk, and never fails (`copies_are_same`).
-#[derive(Clone, Drop)]
+// the same desk (`copies_are_same`).
+#[derive(Clone, Copy)]
 pub struct Desk {
     pub book: Book,
     held: Held,
@@ -30,6 +30,23 @@ impl Desk {
             book,
             held: Held::new(),
         }
+    }
+
+    // A desk that begins with this book, and in the midst of a line: as many of its bytes are held as there is room for.
+    pub fn with_line(book: Book, line: &[u8]) -> Desk
+        ensures { result ≡ in_line book line.now }
+    {
+        Desk {
+            book,
+            held: Held::of(line),
+        }
+    }
+
+    // What is held of a line that has not ended yet; nothing where none has begun.
+    pub fn held(&self) -> &[u8]
+        ensures { result.now ≡ self.now.held }
+    {
+        self.held.as_slice()
     }
 
     // The next bytes of the input: each line that ends in them is answered, with the table, and the book that the one

@@ -12,6 +12,10 @@ pub(crate) fn fitted<const N: usize>(pattern: &[u8], text: &[u8], most: usize) -
     requires { (hashes pattern.now ≡ N) × (most ≤ 18) }
     ensures { result ≡ fit most pattern.now text.now }
 {
+    // Each byte and each number of the pattern takes a byte of the text or more, by which most lines of another form go.
+    if text.len() < pattern.len() {
+        return None;
+    }
     let mut n = [0; N];
     let mut form = pattern;
     let mut rest = text;

@@ -3,10 +3,11 @@ use Rattle.std.proofs.Common.{◌≡◌, ℕ, ◌+◌, ◌-◌, ◌≤◌, List,
 use mathlib.Core.List.{append-nil}
 use lib.Seq.{take-add}
 use Rattle.text.specs.Program.{joined}
+use Rattle.credit_book.specs.declared.files.TextRead.{TextRead}
 use Rattle.credit_book.specs.declared.progress.Lapse.{Lapse}
 use Rattle.credit_book.specs.declared.progress.Progress.{Progress}
 use Rattle.credit_book.specs.Turns.{count, most_turns, progress}
-use Rattle.credit_book.specs.Files.{AddedBy, Broken, ComesTo, Pieces, ReadWhole, Torn, unless_full}
+use Rattle.credit_book.specs.Files.{AddedBy, ComesTo, Pieces, ReadWhole, Torn, unless_full}
 
 -- ---- the reading
 -- what has been read so far, and how far that has come: the loop's invariant is this at `More`
@@ -65,30 +66,45 @@ next {text₀ = text₀} {text' = text'} {len = len} {n = n} {read = read} g l a
       counts = rw (length-append g.pieces (bytes ∷ [])) (omega (arith, g.counts));
     }
 
-pub whole : {text₀ text : List ℕ} {len turns : ℕ} → SoFar text₀ text len turns Progress.Ended → ReadWhole len text
+pub whole :
+    {text₀ text : List ℕ} {len turns : ℕ} → SoFar text₀ text len turns Progress.Ended
+    → ReadWhole (record { len = len; turns = turns }) text
 whole g =
-    record { pieces = g.pieces; reading = rw g.long g.reading; len_is = g.len_is; bytes_are = g.bytes_are }
+    record {
+      pieces = g.pieces;
+      reading = rw g.long g.reading;
+      len_is = g.len_is;
+      bytes_are = g.bytes_are;
+      counts = g.counts;
+    }
 
-pub failed : {text₀ text : List ℕ} {len turns : ℕ} → SoFar text₀ text len turns Progress.Failed → Torn text
+pub failed :
+    {text₀ text : List ℕ} {len turns : ℕ} → SoFar text₀ text len turns Progress.Failed
+    → Torn (record { len = len; turns = turns }) text
 failed g =
     record {
       broken = record { pieces = g.pieces; reading = inl (rw g.long g.reading) };
-      bytes_are = rw g.len_is at g.bytes_are;
+      len_is = g.len_is;
+      bytes_are = g.bytes_are;
+      counts = g.counts;
     }
 
 pub used_up :
-    {text₀ text : List ℕ} {len : ℕ} → SoFar text₀ text len most_turns Progress.More → Torn text
+    {text₀ text : List ℕ} {len : ℕ} → SoFar text₀ text len most_turns Progress.More
+    → Torn (record { len = len; turns = most_turns }) text
 used_up g =
     record {
       broken = record { pieces = g.pieces; reading = inr (rw g.long g.reading, sym g.counts) };
-      bytes_are = rw g.len_is at g.bytes_are;
+      len_is = g.len_is;
+      bytes_are = g.bytes_are;
+      counts = g.counts;
     }
 
 -- ---- what the text comes to
 -- by any f that a text's first bytes decide
 pub comes_to :
-    {A : Type 0} {room : ℕ} {f : List ℕ → A} {len : ℕ} {text : List ℕ} {v : A}
-    → ((s : List ℕ) → f (take room s) ≡ f s) → length text ≡ room → ReadWhole len text → f (take len text) ≡ v
+    {A : Type 0} {room : ℕ} {f : List ℕ → A} {r : TextRead} {text : List ℕ} {v : A}
+    → ((s : List ℕ) → f (take room s) ≡ f s) → length text ≡ room → ReadWhole r text → f (take r.len text) ≡ v
     → ComesTo room f v
 comes_to {f = f} first_bytes_lem long h k =
     let verdict = ap f (sym h.bytes_are) ∙ k in

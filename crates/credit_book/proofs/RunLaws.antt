@@ -5,7 +5,7 @@ use mathlib.Core.List.{List, [], ◌∷◌, ◌++◌, append_assoc}
 use Rattle.figuring.specs.Tables.{Table}
 use Rattle.book.specs.declared.ledger.Book.{Book}
 use Rattle.std.specs.Prelude.{None, Some}
-use Rattle.text.specs.Desk.{Terminal, takes_all, ends}
+use Rattle.text.specs.Desk.{Terminal, at_desk, takes_all, ends}
 use Rattle.text.specs.Listing.{listing}
 use Rattle.text.specs.Program.{opened, written, joined, terminal, in_chunks}
 use Rattle.text.proofs.SessionLaws.{any_chunks}
@@ -51,14 +51,14 @@ module _ (t : Table) where
       rw (taken b chunks x p g) (sym (in_turns (opened b) chunks) ∙ any_chunks t b chunks)
 
   pub ran_to_end :
-      (b : Book) (x : Terminal) (r : Input) (c : Closed)
-      → ReadBy t b x r → r.progress ≡ Progress.Ended → ClosedBy t x c
+      (b : Book) (r : Input) (c : Closed)
+      → ReadBy t b r → r.progress ≡ Progress.Ended → ClosedBy t (at_desk r.desk) c
       → RanBy t b (record { input = r; closed = Some c })
-  ran_to_end b x r c g e h =
-      record { x = x; read = g; closes = λ _. h; unclosed = λ n. absurd (n e); whole = whole_run b _ _ _ g.reading }
+  ran_to_end b r c g e h =
+      record { read = g; closes = λ _. h; unclosed = λ n. absurd (n e); whole = whole_run b _ _ _ g.reading }
 
   pub ran_short :
-      (b : Book) (x : Terminal) (r : Input) → ReadBy t b x r → (r.progress ≡ Progress.Ended → ⊥)
+      (b : Book) (r : Input) → ReadBy t b r → (r.progress ≡ Progress.Ended → ⊥)
       → RanBy t b (record { input = r; closed = None })
-  ran_short b x r g n =
-      record { x = x; read = g; closes = λ e. absurd (n e); unclosed = λ _. refl; whole = whole_run b _ _ _ g.reading }
+  ran_short b r g n =
+      record { read = g; closes = λ e. absurd (n e); unclosed = λ _. refl; whole = whole_run b _ _ _ g.reading }

@@ -5,6 +5,7 @@ use Rattle.book.specs.declared.ledger.Book.{Book}
 use Rattle.text.specs.Desk.{at_desk, open_desk, takes_all}
 use Rattle.credit_book.specs.declared.progress.Progress.{Progress}
 use Rattle.credit_book.specs.declared.console.Console.{Console}
+use Rattle.credit_book.specs.declared.console.Input.{Input}
 use Rattle.credit_book.specs.declared.console.Turn.{Turn}
 use Rattle.credit_book.specs.Turns.{Turned, Reading, ReadBy, count, most_turns, progress}
 
@@ -38,14 +39,14 @@ next {t} {b} {c} {r = r} g s e =
     }
 
 pub read_by :
-    {t : Table} {b : Book} {c : Console} {turns : ℕ} {p : Progress}
+    {t : Table} {b : Book} {c : Console} {turns : ℕ} {p : Progress} {r : Input}
     → SoFar t b c turns p → (p ≡ Progress.More → turns ≡ most_turns)
-    → ReadBy t b (at_desk c.desk) (record { turns = turns; progress = p })
-read_by g u = record { chunks = g.chunks; reading = g.reading; counts = g.counts; used_up = u }
+    → r ≡ record { desk = c.desk; turns = turns; progress = p } → ReadBy t b r
+read_by g u e = rw e (record { chunks = g.chunks; reading = g.reading; counts = g.counts; used_up = u })
 
 -- a turn after which no more is read
 pub read_to :
-    {t : Table} {b : Book} {c c' : Console} {turns : ℕ} {p : Progress} {r : Turn}
+    {t : Table} {b : Book} {c c' : Console} {turns : ℕ} {p : Progress} {r : Turn} {i : Input}
     → SoFar t b c turns Progress.More → Turned c r c' → p ≡ progress r.read r.wrote.fine
-    → (p ≡ Progress.More → ⊥) → ReadBy t b (at_desk c'.desk) (record { turns = turns + 1; progress = p })
-read_to g s e n = read_by (next g s e) (λ m. absurd (n m))
+    → (p ≡ Progress.More → ⊥) → i ≡ record { desk = c'.desk; turns = turns + 1; progress = p } → ReadBy t b i
+read_to g s e n i = read_by (next g s e) (λ m. absurd (n m)) i

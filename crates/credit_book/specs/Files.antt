@@ -3,6 +3,7 @@
 use Rattle.std.specs.Prelude.{ℕ, ◌-◌, ◌≤◌, true, cond, ◌≡◌, ◌⊎◌, List, [], ◌∷◌, ◌++◌, ltb, length, take, Result, Ok, Err}
 use Rattle.text.specs.Loads.{Read, accepted, refused}
 use Rattle.text.specs.Program.{joined}
+use Rattle.credit_book.specs.declared.files.TextRead.{TextRead}
 use Rattle.credit_book.specs.declared.files.Unusable.{Unusable}
 use Rattle.credit_book.specs.declared.progress.Lapse.{Lapse}
 use Rattle.credit_book.specs.declared.progress.Progress.{Progress}
@@ -34,11 +35,12 @@ pub data Pieces (room : ℕ) : List (List ℕ) → Progress → Type 0 where
       (unless_full room (length (joined (pieces ++ (bytes ∷ [])))) (progress read true))
 
 -- a file that was read to its end, or until the buffer was full: its first len bytes are the pieces, one after the other
-pub record ReadWhole (len : ℕ) (text : List ℕ) : Type 0 where
+pub record ReadWhole (r : TextRead) (text : List ℕ) : Type 0 where
   pub pieces : List (List ℕ)
   pub reading : Pieces (length text) pieces Progress.Ended
-  pub len_is : len ≡ length (joined pieces)
-  pub bytes_are : take len text ≡ joined pieces
+  pub len_is : r.len ≡ length (joined pieces)
+  pub bytes_are : take r.len text ≡ joined pieces
+  pub counts : r.turns ≡ length pieces
 
 -- a file was not read to its end: a read failed, or the turns were used up
 pub record Broken (room : ℕ) : Type 0 where
@@ -46,15 +48,16 @@ pub record Broken (room : ℕ) : Type 0 where
   pub reading : Pieces room pieces Progress.Failed ⊎ (Pieces room pieces Progress.More × (length pieces ≡ most_turns))
 
 -- and of such a one the buffer's first bytes are the pieces still
-pub record Torn (text : List ℕ) : Type 0 where
+pub record Torn (r : TextRead) (text : List ℕ) : Type 0 where
   pub broken : Broken (length text)
-  pub bytes_are : take (length (joined broken.pieces)) text ≡ joined broken.pieces
+  pub len_is : r.len ≡ length (joined broken.pieces)
+  pub bytes_are : take r.len text ≡ joined broken.pieces
+  pub counts : r.turns ≡ length broken.pieces
 
 -- the reading of a file
-abbrev pub TextReadBy : Result ℕ Unusable → List ℕ → Type 0
-TextReadBy (Ok len) text = ReadWhole len text
-TextReadBy (Err Unusable.Unreadable) text = Torn text
-TextReadBy (Err (Unusable.Refused n)) text = ⊥
+abbrev pub TextReadBy : Result TextRead TextRead → List ℕ → Type 0
+TextReadBy (Ok r) text = ReadWhole r text
+TextReadBy (Err r) text = Torn r text
 
 -- a file was read to its end, or until `room` bytes were read, nothing failed, and by f its text comes to v
 pub record ComesTo {A : Type 0} (room : ℕ) (f : List ℕ → A) (v : A) : Type 0 where

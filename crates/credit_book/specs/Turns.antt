@@ -77,10 +77,10 @@ pub data Reading (t : Table) (b : Book) : List (List ℕ) → Terminal → Progr
       → wrote.handed ≡ length (takes_all t x chunk).said
       → Reading t b (chunks ++ (chunk ∷ [])) (written (takes_all t x chunk)) (progress read wrote.fine)
 
--- the input is read to its end, to a failure, or until the turns are used up; x is the terminal then
-pub record ReadBy (t : Table) (b : Book) (x : Terminal) (r : Input) : Type 0 where
+-- the input is read to its end, to a failure, or until the turns are used up
+pub record ReadBy (t : Table) (b : Book) (r : Input) : Type 0 where
   pub chunks : List (List ℕ)
-  pub reading : Reading t b chunks x r.progress
+  pub reading : Reading t b chunks (at_desk r.desk) r.progress
   pub counts : r.turns ≡ length chunks
   pub used_up : r.progress ≡ Progress.More → r.turns ≡ most_turns
 
@@ -100,13 +100,11 @@ said_to t x (c ∷ cs) = (takes_all t x c).said ++ said_to t (written (takes_all
 
 -- a run: the input, and what is written at its end, if it came to it and nothing failed
 pub record RanBy (t : Table) (b : Book) (r : Ran) : Type 0 where
-  -- the terminal once no more is read
-  pub x : Terminal
-  pub read : ReadBy t b x r.input
-  pub closes : r.input.progress ≡ Progress.Ended → IsSomeAnd r.closed (ClosedBy t x)
+  pub read : ReadBy t b r.input
+  pub closes : r.input.progress ≡ Progress.Ended → IsSomeAnd r.closed (ClosedBy t (at_desk r.input.desk))
   pub unclosed : r.input.progress ≢ Progress.Ended → r.closed ≡ None
   -- what the turns, the last line and the listing say is together the terminal's answer to the bytes that were read
   pub whole :
       said_to t (opened b) read.chunks
-      ++ ((ends t x).said ++ listing (ends t x).book)
+      ++ ((ends t (at_desk r.input.desk)).said ++ listing (ends t (at_desk r.input.desk)).book)
       ≡ terminal t b (joined read.chunks)

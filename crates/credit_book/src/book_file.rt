@@ -18,8 +18,8 @@ fn load_book(rt: HostRuntime, file: File) -> Result<Book, Unusable>
     ensures { FromBookFile result }
 {
     let mut text = [0u8; TEXT_ROOM];
-    let n = read_text(rt, file, WHAT, &mut text)?;
-    Ok(read_book(&text[..n])?)
+    let read = read_text(rt, file, WHAT, &mut text)?;
+    Ok(read_book(&text[..read.len])?)
 }
 
 // The name is the place of the file's name among the arguments.

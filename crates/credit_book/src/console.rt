@@ -51,9 +51,10 @@ pub struct Turn {
     pub wrote: Wrote,
 }
 
-// How many reads there were, and how far they came.
+// The desk after the reads, how many there were, and how far they came.
 #[derive(Clone, Copy)]
 pub struct Input {
+    pub desk: Desk,
     pub turns: u64,
     pub progress: Progress,
 }
@@ -155,7 +156,8 @@ impl Console<'_> {
     #[tactic(auto, using(crate::proofs::TurnLaws::none_yet, crate::proofs::TurnLaws::next, crate::proofs::TurnLaws::read_by))]
     fn read_all(&mut self) -> Input
         requires { self.old.desk ≡ open_desk self.old.desk.book }
-        ensures read { ReadBy self.old.table self.old.desk.book (at_desk self.new.desk) result }
+        ensures read { ReadBy self.old.table self.old.desk.book result }
+        ensures same_desk { self.new.desk ≡ result.desk }
         ensures same_table { self.new.table ≡ self.old.table }
     {
         for turns in 0..u64::MAX {
@@ -163,22 +165,27 @@ impl Console<'_> {
             let progress = progress_after(turn.read, turn.wrote.fine);
             match progress {
                 Progress::More => {}
-                _ => {
-                    let turns = turns + 1;
-                    return Input { turns, progress };
-                }
+                _ => return self.input(turns + 1, progress),
             }
         }
+        self.input(u64::MAX, Progress::More)
+    }
+
+    // The input after so many reads that came so far.
+    fn input(&self, turns: u64, progress: Progress) -> Input
+        ensures { result ≡ record { desk = self.now.desk; turns = turns; progress = progress } }
+    {
         Input {
-            turns: u64::MAX,
-            progress: Progress::More,
+            desk: self.desk,
+            turns,
+            progress,
         }
     }
 
     // The end of the input: the last line's answer, then the cells. It takes the input, so that nothing is answered or
     // listed after one that failed.
-    fn close(&mut self, input: Input) -> Closed
-        requires { input.progress ≡ Progress.Ended }
+    fn close(&mut self, input: &Input) -> Closed
+        requires { input.now.progress ≡ Progress.Ended }
         ensures { ClosedBy self.old.table (at_desk self.old.desk) result }
     {
         let last = self.answer_last();
@@ -205,7 +212,7 @@ pub fn run(rt: HostRuntime, table: Table, book: Book, out: &mut [u8; OUT_ROOM]) 
     };
     let input = console.read_all();
     let closed = match input.progress {
-        Progress::Ended => Some(console.close(input)),
+        Progress::Ended => Some(console.close(&input)),
         _ => None,
     };
     Ran { input, closed }

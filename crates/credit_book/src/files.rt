@@ -51,27 +51,47 @@ fn unless_full(progress: Progress, len: usize, room: usize) -> Progress
     }
 }
 
-// Reads a file to its end, or until the buffer is full, and closes it: how many bytes that gave, a count as std's `read`
-// gives. If not, that is told: a read that failed told it, and used-up turns are told here. As to the turns, see `read_all`.
+// How many bytes of a file were read, and in how many reads.
+#[derive(Clone, Copy)]
+pub struct TextRead {
+    pub len: usize,
+    pub turns: u64,
+}
+
+impl From<TextRead> for Unusable {
+    ghost use Rattle.std.specs.Prelude.{◌≡◌};
+    ghost use Rattle.credit_book.specs.declared.files.Unusable.{Unusable};
+
+    ghost from_gives = { λ read why. why ≡ Unusable.Unreadable };
+
+    fn from(_read: TextRead) -> Unusable {
+        Unusable::Unreadable
+    }
+}
+
+// Reads a file to its end, or until the buffer is full, and closes it: what was read. If it did not come so far, that is
+// told: a read that failed told it, and used-up turns are told here. As to the turns, see `read_all`.
 #[tactic(auto, using(crate::proofs::FileLaws::none_yet, crate::proofs::FileLaws::next, crate::proofs::FileLaws::whole, crate::proofs::FileLaws::failed, crate::proofs::FileLaws::used_up))]
 pub fn read_text(
     rt: HostRuntime,
     mut file: File,
     what: &str,
     text: &mut [u8],
-) -> Result<usize, Unusable>
+) -> Result<TextRead, TextRead>
     ensures { TextReadBy result text.new }
 {
     let mut len: usize = 0;
-    for _ in 0..u64::MAX {
+    for turns in 0..u64::MAX {
         let read = add_some(rt, &mut file, what, text, len);
         len += read.unwrap_or(0);
+        let turns = turns + 1;
         match unless_full(progress_after(read, true), len, text.len()) {
             Progress::More => {}
-            Progress::Ended => return Ok(len),
-            Progress::Failed => return Err(Unusable::Unreadable),
+            Progress::Ended => return Ok(TextRead { len, turns }),
+            Progress::Failed => return Err(TextRead { len, turns }),
         }
     }
     let _ = eprintln!(rt; "{what}: Too many reads");
-    Err(Unusable::Unreadable)
+    let turns = u64::MAX;
+    Err(TextRead { len, turns })
 }

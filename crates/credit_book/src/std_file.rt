@@ -20,8 +20,8 @@ fn load_file(rt: HostRuntime, file: File) -> Result<Table, Unusable>
     ensures { FromFile result }
 {
     let mut text = [0u8; TABLE_ROOM];
-    let n = read_text(rt, file, WHAT, &mut text)?;
-    Ok(read_table(&text[..n])?)
+    let read = read_text(rt, file, WHAT, &mut text)?;
+    Ok(read_table(&text[..read.len])?)
 }
 
 // By what the opening answered: the file, or why it was not opened.

@@ -5,13 +5,13 @@ use Rattle.credit_book.proofs.files.read_text.Goals as goal
 
 pub returns-in-Ended : goal.returns-in-Ended
 returns-in-Ended c =
-    whole (next c.loop.invariant c.add_some-read.auto.text c.add_some-read.ensures c.unwrap_or-len.ensures (cc))
+    whole (next c.loop-turns.invariant c.add_some-read.auto.text c.add_some-read.ensures c.unwrap_or-len.ensures (cc))
 
 pub returns-in-Failed : goal.returns-in-Failed
 returns-in-Failed c =
-    failed (next c.loop.invariant c.add_some-read.auto.text c.add_some-read.ensures c.unwrap_or-len.ensures (cc))
+    failed (next c.loop-turns.invariant c.add_some-read.auto.text c.add_some-read.ensures c.unwrap_or-len.ensures (cc))
 
 pub returns : goal.returns
 returns c =
-    let e : c.loop.counter ≡ most_turns = omega (arith, c.loop-test.false, c.loop.auto.counter-end) in
-    used_up (rw e at c.loop.invariant)
+    let e : c.loop-turns.turns ≡ most_turns = omega (arith, c.loop-turns-test.false, c.loop-turns.auto.turns-end) in
+    used_up (rw e at c.loop-turns.invariant)

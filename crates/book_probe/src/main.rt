@@ -10,14 +10,29 @@ mod records;
 mod texts;
 mod words;
 
-use records::{Asked, RECORD, Record, answer_call, asked_of};
+ghost use Rattle.std.specs.Prelude.{◌≡◌, ◌*◌, length};
+ghost use Rattle.book_probe.specs.Sizes.{record_bytes};
+
+use records::{ANSWER, Answered, Asked, RECORD, Record, answer_call, asked_of};
 use streams::reading::read_full;
 use text::reading::TEXT_ROOM;
 use texts::text_turn;
 
-// Reads one record and writes its answer; nothing, which ends the run (an Option, as its reads and writes are made by `ok`) and was told if it is a fault, at the input's end, at a kind that is not known or too many bytes, or if
-// a write fails.
-fn turn(rt: HostRuntime, input: &mut Record, bytes: &mut [u8; TEXT_ROOM]) -> Option<()> {
+// The record, before one is read.
+fn blank_record() -> Record
+    ensures { record_bytes ≡ 8 * length result }
+{
+    [[0; 8]; RECORD]
+}
+
+// Reads one record and writes its answer; nothing, which ends the run (an Option, as its reads and writes are made by `ok`)
+// and was told if it is a fault, at the input's end, at a kind that is not known or too many bytes, or if a write fails.
+fn turn(
+    rt: HostRuntime,
+    input: &mut Record,
+    bytes: &mut [u8; TEXT_ROOM],
+    out: &mut Answered,
+) -> Option<()> {
     let input_bytes = input.as_flattened_mut();
     if read_full(&mut rt.stdin(), input_bytes) < input_bytes.len() {
         return None;
@@ -28,19 +43,20 @@ fn turn(rt: HostRuntime, input: &mut Record, bytes: &mut [u8; TEXT_ROOM]) -> Opt
     };
     match asked {
         Asked::Post(call) => {
-            let out = answer_call(input, call);
+            answer_call(input, call, out);
             rt.write_all(out.as_flattened()).ok()
         }
-        Asked::Text(count) => text_turn(rt, input, count, bytes),
+        Asked::Text(count) => text_turn(rt, input, count, bytes, out),
     }
 }
 
 fn main(rt: HostRuntime) {
-    let mut input = [[0u8; 8]; RECORD];
+    let mut input = blank_record();
     let mut bytes = [0u8; TEXT_ROOM];
+    let mut out = [[0u8; 8]; ANSWER];
     // a proved loop has to end: this one counts up to a number that no input reaches
     for _ in 0..u64::MAX {
-        if turn(rt, &mut input, &mut bytes).is_none() {
+        if turn(rt, &mut input, &mut bytes, &mut out).is_none() {
             return;
         }
     }

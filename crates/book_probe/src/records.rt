@@ -1,8 +1,9 @@
 // Records: a book, a call and a table in, whether the book is sound, the answer and the book after it out. What a record
 // of a text gets is in texts.rt.
-ghost use Rattle.std.specs.Prelude.{◌<◌, ◌≤◌, length};
+ghost use Rattle.std.specs.Prelude.{◌≡◌, ◌≤◌, ◌*◌, length};
+ghost use Rattle.book_probe.specs.Sizes.{answer_bytes, book_bytes};
 
-use crate::words::{Word, numbers, put_words};
+use crate::words::{Word, put_numbers, read_numbers};
 use book::answers::{Answer, Refusal};
 use book::kinds::{Application, Call, Cover, Filing, Limits, Purpose, Retirement, Trade};
 use book::ledger;
@@ -10,7 +11,6 @@ use book::ledger::Book;
 use book::posting::post;
 use figuring::grid::{COLUMNS, YEARS};
 use figuring::tables::Table;
-use std::array;
 
 // Where the book's arrays begin, in words, after its open year, and where it ends.
 const MARKS: usize = 1;
@@ -37,7 +37,7 @@ pub(crate) const RECORD: usize = TABLE + COLUMNS * YEARS;
 // Where the book begins in an answer: after its soundness, its refusal and two values.
 const AFTER: usize = 4;
 
-const ANSWER: usize = AFTER + BOOK;
+pub(crate) const ANSWER: usize = AFTER + BOOK;
 
 pub type Record = [Word; RECORD];
 
@@ -50,53 +50,61 @@ pub enum Asked {
     Text(u64),
 }
 
-pub(crate) fn answer_call(input: &Record, call: Call) -> Answered {
+pub(crate) fn answer_call(input: &Record, call: Call, out: &mut Answered)
+    requires { answer_bytes ≡ 8 * length out.old }
+{
     let book = book_of(input);
     let posted = post(book, table_of(input), call);
-    answer_of(book.is_sound(), figures_of(posted.answer), posted.book)
+    put_answer(
+        out,
+        book.is_sound(),
+        figures_of(posted.answer),
+        &posted.book,
+    );
 }
 
 // The words of an answer: whether the book is sound, the refusal and two values, and the book after it.
-pub(crate) fn answer_of(sound: bool, figures: [u64; 3], after: Book) -> Answered {
-    let mut out = [[0u8; 8]; ANSWER];
+pub(crate) fn put_answer(out: &mut Answered, sound: bool, figures: [u64; 3], after: &Book)
+    requires { answer_bytes ≡ 8 * length out.old }
+{
     out[0] = u64::from(sound).to_le_bytes();
-    put_words(&mut out, 1, &figures.map(u64::to_le_bytes));
+    put_numbers(out, 1, u64::to_le_bytes, &figures);
     put_book(&mut out[AFTER..], after);
-    out
 }
 
-fn put_book(out: &mut [Word], book: Book)
-    requires { BOOK ≤ length out.old }
+fn put_book(out: &mut [Word], book: &Book)
+    requires { book_bytes ≤ 8 * length out.old }
 {
     out[0] = book.open_year.to_le_bytes();
-    put_words(out, MARKS, &book.marks.map(u64::to_le_bytes));
-    put_words(out, PARTS, &book.parts.map(i64::to_le_bytes));
-    put_words(out, LOTS, &book.lots.map(u64::to_le_bytes));
-    put_words(out, SHORTAGES, &book.shortages.map(u64::to_le_bytes));
+    put_numbers(out, MARKS, u64::to_le_bytes, &book.marks);
+    put_numbers(out, PARTS, i64::to_le_bytes, &book.parts);
+    put_numbers(out, LOTS, u64::to_le_bytes, &book.lots);
+    put_numbers(out, SHORTAGES, u64::to_le_bytes, &book.shortages);
 }
 
 pub(crate) fn book_of(input: &Record) -> Book {
-    Book {
-        open_year: u64::from_le_bytes(input[0]),
-        marks: numbers(input, MARKS, u64::from_le_bytes),
-        parts: numbers(input, PARTS, i64::from_le_bytes),
-        lots: numbers(input, LOTS, u64::from_le_bytes),
-        shortages: numbers(input, SHORTAGES, u64::from_le_bytes),
-    }
+    let mut book = Book::fresh();
+    book.open_year = u64::from_le_bytes(input[0]);
+    read_numbers(input, MARKS, u64::from_le_bytes, &mut book.marks);
+    read_numbers(input, PARTS, i64::from_le_bytes, &mut book.parts);
+    read_numbers(input, LOTS, u64::from_le_bytes, &mut book.lots);
+    read_numbers(input, SHORTAGES, u64::from_le_bytes, &mut book.shortages);
+    book
 }
 
 fn table_of(input: &Record) -> Table {
-    array::from_fn(
-        |i| -> [u64; COLUMNS]
-            requires { i < YEARS }
-        { numbers(input, TABLE + COLUMNS * i, u64::from_le_bytes) },
-    )
+    let mut table = [[0; COLUMNS]; YEARS];
+    read_numbers(input, TABLE, u64::from_le_bytes, table.as_flattened_mut());
+    table
 }
 
 pub(crate) fn asked_of(input: &Record) -> Option<Asked> {
     let kind = u64::from_le_bytes(input[KIND]);
-    let arguments: [u64; 10] = numbers(input, ARGUMENTS, u64::from_le_bytes);
-    let [number, volume]: [u64; 2] = numbers(input, ARGUMENTS + 10, u64::from_le_bytes);
+    let mut arguments = [0; 10];
+    read_numbers(input, ARGUMENTS, u64::from_le_bytes, &mut arguments);
+    let mut limits = [0; 2];
+    read_numbers(input, ARGUMENTS + 10, u64::from_le_bytes, &mut limits);
+    let [number, volume] = limits;
     let [a, b, c, d, e, ..] = arguments;
     let call = match kind {
         0 => Call::File(Filing::of(Purpose::File(Limits::LARGE), arguments)),

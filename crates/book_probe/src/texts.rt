@@ -1,7 +1,10 @@
 // Records of a text: as many bytes follow as the first argument says. They are read as the text of a book that is to stand
 // in the place of the record's, by value, as `read_in` does with a lent one; and then the record's book, as it came, is
 // written into them.
-use crate::records::{Answered, Record, answer_of, book_of};
+ghost use Rattle.std.specs.Prelude.{◌≡◌, ◌*◌, length};
+ghost use Rattle.book_probe.specs.Sizes.{answer_bytes, text_bytes};
+
+use crate::records::{Answered, Record, book_of, put_answer};
 use book::answers::Refusal;
 use book::ledger::Book;
 use streams::reading::read_full;
@@ -14,7 +17,10 @@ pub(crate) fn text_turn(
     input: &Record,
     count: u64,
     bytes: &mut [u8; TEXT_ROOM],
-) -> Option<()> {
+    out: &mut Answered,
+) -> Option<()>
+    requires { (text_bytes ≡ length bytes.old) × (answer_bytes ≡ 8 * length out.old) }
+{
     if count > TEXT_ROOM as u64 {
         let _ = eprintln!(rt; "book_probe: too many bytes");
         return None;
@@ -23,18 +29,20 @@ pub(crate) fn text_turn(
     if read_full(&mut rt.stdin(), bytes) < bytes.len() {
         return None;
     }
-    let out = answer_text(input, bytes);
+    answer_text(input, bytes, out);
     rt.write_all(out.as_flattened()).ok()?;
     rt.write_all(bytes).ok()
 }
 
 // The reading comes first, since the writing changes the bytes.
-fn answer_text(input: &Record, bytes: &mut [u8]) -> Answered {
+fn answer_text(input: &Record, bytes: &mut [u8], out: &mut Answered)
+    requires { answer_bytes ≡ 8 * length out.old }
+{
     let book = book_of(input);
     let read = read_book(bytes);
     let wrote = write_book(bytes, &book);
     let figures = text_figures(wrote, read);
-    answer_of(book.is_sound(), figures, read.unwrap_or(book))
+    put_answer(out, book.is_sound(), figures, &read.unwrap_or(book));
 }
 
 // The refusal when written, or 0 and the length; and the refusal when read, or 0.

@@ -1,25 +1,34 @@
 // Words of 64 bits, low byte first.
 ghost use Rattle.std.specs.Prelude.{◌+◌, ◌≤◌, length};
 
-use std::array;
-
 pub type Word = [u8; 8];
 
-// The numbers that a run of words has from a place on.
-pub(crate) fn numbers<T, F: Fn(Word) -> T, const N: usize>(
+// Fills numbers from the words from a place on; in place, since a book's arrays are long.
+pub(crate) fn read_numbers<T: Copy, F: Fn(Word) -> T>(
     words: &[Word],
     at: usize,
     number: F,
-) -> [T; N]
-    requires room { at + N ≤ length words.now }
+    numbers: &mut [T],
+)
+    requires room { at + length numbers.old ≤ length words.now }
     requires any { F.IsAlwaysCallable number }
 {
-    array::from_fn(|i| number(words[at + i]))
+    for (n, word) in numbers.iter_mut().zip(&words[at..]) {
+        *n = number(*word);
+    }
 }
 
-// Puts words from a place on.
-pub(crate) fn put_words(out: &mut [Word], at: usize, words: &[Word])
-    requires { at + length words.now ≤ length out.old }
+// Puts numbers as words from a place on.
+pub(crate) fn put_numbers<T: Copy, F: Fn(T) -> Word>(
+    words: &mut [Word],
+    at: usize,
+    word: F,
+    numbers: &[T],
+)
+    requires room { at + length numbers.now ≤ length words.old }
+    requires any { F.IsAlwaysCallable word }
 {
-    out[at..at + words.len()].copy_from_slice(words);
+    for (w, n) in words[at..].iter_mut().zip(numbers) {
+        *w = word(*n);
+    }
 }

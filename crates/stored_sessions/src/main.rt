@@ -52,7 +52,8 @@ fn answer_argument(rt: HostRuntime, i: usize, out: &mut [u8; ROOM]) -> Option<()
         Ok(name) => name,
         Err(why) if why.kind() == ErrorKind::NotFound => return None,
         Err(_) => {
-            say(rt, b"==  missing\n");
+            say(rt, b"== ");
+            say(rt, b" missing\n");
             return Some(());
         }
     };

@@ -1,5 +1,7 @@
-// What a session gives. From a fresh book it is answered whole, by `session`; from a stored one by the calls that `session`
-// is made of, since its book is written at its end.
+// What a session gives. From a fresh book it is answered whole, by `session`; from a stored one by the desk and the
+// listing, since its book is written at its end.
+ghost use Rattle.std.specs.Prelude.{◌≤◌, IfSome, length};
+
 use crate::{say, say_refusal};
 use book::ledger::Book;
 use figuring::tables::Table;
@@ -56,9 +58,11 @@ fn say_stored(rt: HostRuntime, table: Table, book: Book, input: &[u8], out: &mut
     }
 }
 
-// The first bytes of the buffer, as many as were put. It has the room, so there are always some.
-fn say_first(rt: HostRuntime, put: Option<usize>, out: &[u8]) {
-    if let Some(text) = put.and_then(|n| out.get(..n)) {
-        say(rt, text);
+// The first bytes of the buffer, as many as were put: nothing where there was no room.
+fn say_first(rt: HostRuntime, put: Option<usize>, out: &[u8])
+    requires { IfSome put (λ n. n ≤ length out.now) }
+{
+    if let Some(n) = put {
+        say(rt, &out[..n]);
     }
 }

@@ -1,15 +1,17 @@
 -- Setting a family's bit.
-use Prim.Native.Nat.{ℕ, zero, suc, ◌+◌, ◌-◌, ◌/◌, ◌%◌, ◌^◌, ◌≤◌, ◌<◌}
+use Prim.Native.Nat.{ℕ, zero, suc, ◌+◌, ◌*◌, ◌-◌, ◌/◌, ◌%◌, ◌^◌, ◌≤◌, ◌<◌}
 use mathlib.Core.Bool.{true, false, true≢false}
-use mathlib.Core.Path.{◌≡◌, refl, sym, ◌∙◌, ap}
+use mathlib.Core.Path.{◌≡◌, refl, sym, ◌∙◌, ap, ap₂}
 use native.Mathlib.Omega.{arith}
-use native.Mathlib.Nat.{one-mul, pow-suc, div-eq_of_lt}
+use native.Mathlib.Nat.{one-mul, add-zero, pow-suc, div-eq_of_lt, mod-lt}
 use native.Mathlib.Decide.{dec_lt, ℕ_discrete}
+use borrow.Author.Tests.{eqb-false}
 use lib.Dec.{eqb}
-use lib.Bits.{bit_or, or_shr, or_mod, or_zero_r}
-use lib.Pow.{pow-lt, pow-add, shl-shr, shr-shr}
+use lib.Bits.{bit_or, or_shr, or_mod, or_zero_r, or_block}
+use lib.Pow.{pow_pos, pow-lt, pow-add, shl-shr, shr-shr, split}
+use lib.Count.{ones, ones_cat, ones_step}
 use Rattle.std.proofs.Math.Nat.{pow-le-pow_right}
-use Rattle.book.specs.Ledger.{marked, with_mark}
+use Rattle.book.specs.Ledger.{marked, with_mark, filed_in}
 
 -- the digit at place g of a | b
 or_digit : (a b g : ℕ) → bit_or a b / 2 ^ g % 2 ≡ bit_or (a / 2 ^ g % 2) (b / 2 ^ g % 2)
@@ -50,6 +52,29 @@ pub marked_other : (mark f g : ℕ) → (g ≡ f → ⊥) → marked (with_mark 
 unfolding marked with_mark
 marked_other mark f g ne =
     ap (λ (x : ℕ). eqb x 1) (or_digit mark (2 ^ f) g ∙ ap (bit_or (mark / 2 ^ g % 2)) (other_digit f g ne) ∙ or_zero_r (mark / 2 ^ g % 2))
+
+-- one family more
+ones_even : (q : ℕ) → q % 2 ≡ 0 → ones (bit_or q 1) ≡ ones q + 1
+ones_even q h =
+    ones_step (bit_or q 1)
+    ∙ ap₂ (λ (x y : ℕ). x + ones y) (or_mod q 1 1 ∙ ap (λ (x : ℕ). bit_or x 1) h) (or_shr q 1 1 ∙ or_zero_r (q / 2))
+    ∙ (let e : ones q ≡ q % 2 + ones (q / 2) = ones_step q in omega arith)
+
+pub count_more : (mark f : ℕ) → marked mark f ≡ false → filed_in (with_mark mark f) ≡ filed_in mark + 1
+unfolding marked with_mark
+count_more mark f h =
+    let q = mark / 2 ^ f in
+    let r = mark % 2 ^ f in
+    let l : r < 2 ^ f = mod-lt mark (pow_pos f) in
+    let ne = eqb-false (mark / 2 ^ f % 2) 1 h in
+    let even : q % 2 ≡ 0 = omega (arith, ne) in
+    let whole : mark ≡ q * 2 ^ f + r = sym (split mark f) in
+    let bit : 2 ^ f ≡ 1 * 2 ^ f + 0 = sym (add-zero (1 * 2 ^ f) ∙ one-mul (2 ^ f)) in
+    ap₂ (λ (x y : ℕ). ones (bit_or x y)) whole bit
+    ∙ ap ones (or_block f q 1 r 0 l (pow_pos f) ∙ ap (λ (x : ℕ). bit_or q 1 * 2 ^ f + x) (or_zero_r r))
+    ∙ ones_cat f (bit_or q 1) r l
+    ∙ ap (λ (x : ℕ). x + ones r) (ones_even q even)
+    ∙ (let e : ones mark ≡ ones q + ones r = ap ones whole ∙ ones_cat f q r l in omega arith)
 
 -- ---- a mark is given by its digits
 same_digit : (x y : ℕ) → x < 2 → y < 2 → eqb x 1 ≡ eqb y 1 → x ≡ y

@@ -3,20 +3,21 @@ use Prim.Native.Nat.{ℕ, suc, ◌+◌, ◌-◌, ◌≤◌, ◌<◌}
 use native.Mathlib.Omega.{arith}
 use native.Mathlib.Numerals.{add-one}
 use mathlib.Core.Bool.{Bool, true, false, cond, ◌&&◌}
+use mathlib.Core.Logic.{inl, inr}
 use mathlib.Core.Path.{◌≡◌, refl, sym, ap, ◌∙◌}
 use mathlib.Core.List.{List, [], ◌∷◌, ◌++◌, append_assoc, append-nil}
 use lib.ListN.{length, take, drop, set, replicate, length-drop, length-replicate, length-set}
 use lib.Seq.{take-suc-set, take_all}
-use borrow.Author.Tests.{ne_eqb, eqb-false, ltb-true}
+use borrow.Author.Tests.{ne_eqb, eq-eqb, eqb-false, ltb-true}
+use Rattle.std.specs.Borrow.{Bor}
 use Rattle.std.specs.Cmp.Lexicographic.{pointwise}
-use Rattle.text.specs.FirstLine.{Parted}
 use Rattle.text.specs.Lines.{Lacks}
 use lib.Dec.{eqb}
 use Rattle.std.proofs.Common.{Option, Some, None}
 use Rattle.std.proofs.lemmas.List.{take_rest}
 use Rattle.std.proofs.lemmas.Option.{none-some, same_Some}
 use Rattle.text.specs.Numeral.{number, proper, leading, value}
-use Rattle.text.specs.Pattern.{fit, hashes, on_byte, on_number, prepended, hash}
+use Rattle.text.specs.Pattern.{ToNumber, fit, hashes, on_byte, on_number, prepended, hash}
 use Rattle.figuring.proofs.BoolLaws.{both}
 use Rattle.text.proofs.DigitLaws.{lead_length}
 
@@ -87,25 +88,7 @@ prepended_nil : (o : Option (List ℕ)) → o ≡ prepended [] o
 prepended_nil None = refl
 prepended_nil (Some ns) = refl
 
--- ---- a word of a pattern, with no # in it
--- it stands at the start of a text
-abbrev at_start : List ℕ → List ℕ → Bool
-at_start w s = pointwise eqb (take (length w) s) w
-
-fit_word :
-    (most : ℕ) (w p s : List ℕ) → Lacks hash w
-    → fit most (w ++ p) s ≡ cond (at_start w s) (fit most p (drop (length w) s)) None
-unfolding fit
-fit_word most [] p s h = refl
-fit_word most (c ∷ w) p [] h = rw (ne_eqb c hash h.0)
-fit_word most (c ∷ w) p (b ∷ s) h = rw (ne_eqb c hash h.0, fit_word most w p s h.1) (go (eqb b c) (at_start w s))
-  where
-    go :
-        (x y : Bool) → cond x (cond y (fit most p (drop (length w) s)) None) None
-        ≡ cond (x && y) (fit most p (drop (length w) s)) None
-    go true y = refl
-    go false y = refl
-
+-- ---- the end of a pattern
 -- the last word of a pattern is what is left of the text
 fit_end : (most : ℕ) (w s : List ℕ) → Lacks hash w → fit most w s ≡ cond (pointwise eqb s w) (Some []) None
 unfolding fit
@@ -118,11 +101,6 @@ fit_end most (c ∷ w) (b ∷ s) h = rw (ne_eqb c hash h.0, fit_end most w s h.1
     go true y = refl
     go false y = refl
 
-hashes_past : (w p : List ℕ) → Lacks hash w → hashes (w ++ p) ≡ hashes p
-unfolding hashes
-hashes_past [] p h = refl
-hashes_past (c ∷ w) p h = rw (ne_eqb c hash h.0) (hashes_past w p h.1)
-
 -- a pattern that has no # left
 no_hash : (p : List ℕ) → hashes p ≡ 0 → Lacks hash p
 unfolding hashes
@@ -132,6 +110,45 @@ no_hash (c ∷ p) e = go (eqb c hash) refl e (no_hash p)
     go : (b : Bool) → eqb c hash ≡ b → cond b (suc (hashes p)) (hashes p) ≡ 0 → (hashes p ≡ 0 → Lacks hash p) → Lacks hash (c ∷ p)
     go true q e ih = absurd (omega arith)
     go false q e ih = (eqb-false c hash q, ih e)
+
+-- ---- on to a pattern's next number
+-- with this left of the pattern and of the text, it goes on as from the start
+pub record Onward (form s left rest : List ℕ) : Type 0 where
+  pub hashes_are : hashes form ≡ hashes left
+  pub goes : (most : ℕ) → fit most form s ≡ fit most left rest
+
+pub from_start : (form s : List ℕ) → Onward form s form s
+from_start form s = record { hashes_are = refl; goes = λ _. refl }
+
+module _ {form s left rest : List ℕ} (o : Onward form s left rest) where
+  pub over : left ≡ [] → hashes form ≡ 0
+  unfolding hashes
+  over e = o.hashes_are ∙ rw e
+
+  module _ {p : ℕ} {after : List ℕ} (l : left ≡ p ∷ after) where
+    pub at_number :
+        p ≡ hash → (hashes form ≡ suc (hashes after))
+        × ((most : ℕ)
+        → fit most form s ≡ on_number (number most rest) (λ v k. prepended (v ∷ []) (fit most after (drop k rest))))
+    unfolding fit hashes
+    at_number e = (o.hashes_are ∙ rw (l, e) refl, λ most. o.goes most ∙ rw (l, e) refl)
+
+    module _ (n : p ≡ hash → ⊥) where
+      pub text_over : rest ≡ [] → (most : ℕ) → fit most form s ≡ None
+      unfolding fit
+      text_over e most = o.goes most ∙ rw (l, e, ne_eqb p hash n) refl
+
+      pub other_byte : {b : ℕ} {more : List ℕ} → rest ≡ b ∷ more → (b ≡ p → ⊥) → (most : ℕ) → fit most form s ≡ None
+      unfolding fit
+      other_byte {b} r d most = o.goes most ∙ rw (l, r, ne_eqb p hash n, ne_eqb b p d) refl
+
+      pub same_byte : {b : ℕ} {more : List ℕ} → rest ≡ b ∷ more → b ≡ p → Onward form s after more
+      unfolding fit hashes
+      same_byte {b} r e =
+          record {
+            hashes_are = o.hashes_are ∙ rw (l, ne_eqb p hash n) refl;
+            goes = λ most. o.goes most ∙ rw (l, r, ne_eqb p hash n, eq-eqb b p e) refl;
+          }
 
 -- ---- the loop
 -- the first i numbers of n are read, `form` is left of a pattern p and `rest` of a text s
@@ -149,41 +166,26 @@ module _ {N most : ℕ} {p s n : List ℕ} {i : ℕ} {form rest : List ℕ} (hal
   stops e = sym (half.goes ∙ rw e)
 
   module _ (here : i < N) where
-    pub hash_left : Lacks hash form → ⊥
-    unfolding hashes
-    hash_left h =
-        let q : hashes (form ++ []) ≡ 0 = hashes_past form [] h in
-        omega (arith, half.room, rw append-nil at q)
+    pub not_reached : ToNumber form rest None → None ≡ fit most p s
+    not_reached (inl e) = absurd (omega (arith, half.room, e, here))
+    not_reached (inr none) = stops (none most)
 
-    module _ {w after : List ℕ} (cut : Parted hash form w after) where
-      word_then :
-          fit most form rest
-          ≡ cond (at_start w rest) (on_number (number most (drop (length w) rest))
-          (λ v k. prepended (v ∷ []) (fit most after (drop k (drop (length w) rest))))) None
-      unfolding fit
-      word_then = rw cut.parts (fit_word most w (hash ∷ after) rest cut.lacks)
+    module _ (after from : Bor (List ℕ)) (to : ToNumber form rest (Some (after, from))) where
+      pub no_number : number most from.now ≡ None → None ≡ fit most p s
+      no_number e = stops (to.1 most ∙ rw e refl)
 
-      pub other_word : at_start w rest ≡ false → None ≡ fit most p s
-      other_word e = stops (word_then ∙ rw e)
-
-      module _ {from : List ℕ} (same : at_start w rest ≡ true) (is : from ≡ drop (length w) rest) where
-        pub no_number : number most from ≡ None → None ≡ fit most p s
-        no_number e = stops (word_then ∙ rw (same, ← is, e))
-
-        pub a_number :
-            (v d : ℕ) → number most from ≡ Some (v, d)
-            → Half N most p s (set n i v) (i + 1) after (take (length from - d) (drop d from))
-        unfolding hashes
-        a_number v d e =
-            let q : fit most form rest ≡ prepended (v ∷ []) (fit most after (drop d from)) = word_then ∙ rw (same, ← is, e) in
-            let t : take (i + 1) (set n i v) ≡ take i n ++ (v ∷ []) =
-            rw (add-one i) (take-suc-set n i v (omega (arith, here, half.wide))) in
-            let k : hashes form ≡ suc (hashes after) = rw cut.parts (hashes_past w (hash ∷ after) cut.lacks) in
-            record {
-              wide = length-set n i v ∙ half.wide;
-              room = omega (arith, half.room, k);
-              goes = half.goes ∙ rw (q, t, take_rest from d) (prepended_twice (take i n) (v ∷ []) _);
-            }
+      pub a_number :
+          (v d : ℕ) → number most from.now ≡ Some (v, d)
+          → Half N most p s (set n i v) (i + 1) after.now (take (length from.now - d) (drop d from.now))
+      a_number v d e =
+          let q : fit most form rest ≡ prepended (v ∷ []) (fit most after.now (drop d from.now)) = to.1 most ∙ rw e refl in
+          let t : take (i + 1) (set n i v) ≡ take i n ++ (v ∷ []) =
+          rw (add-one i) (take-suc-set n i v (omega (arith, here, half.wide))) in
+          record {
+            wide = length-set n i v ∙ half.wide;
+            room = omega (arith, half.room, to.0);
+            goes = half.goes ∙ rw (q, t, take_rest from.now d) (prepended_twice (take i n) (v ∷ []) _);
+          }
 
   module _ (done : N ≤ i) where
     none_left : Lacks hash form
@@ -198,4 +200,4 @@ module _ {N most : ℕ} {p s n : List ℕ} {i : ℕ} {form rest : List ℕ} (hal
         sym (half.goes ∙ rw (fit_end most form rest none_left, e, t, append-nil n))
 
 -- what the reader of a pattern needs, but for the step of its loop
-pub ruleset reads_pattern = (too_short, start, hash_left, other_word, no_number, number_length, other_end, whole)
+pub ruleset reads_pattern = (too_short, start, not_reached, no_number, number_length, other_end, whole)

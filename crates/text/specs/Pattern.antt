@@ -1,5 +1,6 @@
 -- A pattern is a text in which # stands for a number, and every other byte for itself.
-use Rattle.std.specs.Prelude.{ℕ, suc, Bool, true, false, cond, List, [], ◌∷◌, ◌++◌, eqb, get_or, drop, Option, Some, None, option_map}
+use Rattle.std.specs.Prelude.{ℕ, suc, Bool, true, false, cond, ◌≡◌, ◌⊎◌, List, [], ◌∷◌, ◌++◌, eqb, get_or, drop, Option, Some, None, option_map}
+use Rattle.std.specs.Borrow.{Bor}
 use Rattle.text.specs.Numeral.{number, numeral}
 
 -- the code of #
@@ -30,6 +31,16 @@ fit most (p ∷ ps) s =
 unfoldable pub hashes : List ℕ → ℕ
 hashes [] = 0
 hashes (p ∷ ps) = cond (eqb p hash) (suc (hashes ps)) (hashes ps)
+
+-- what a reader comes to that goes on to a pattern's next #: behind it the pattern and the text are left; none where the
+-- pattern has none, or the text does not fit it
+abbrev pub ToNumber : List ℕ → List ℕ → Option (Bor (List ℕ) × Bor (List ℕ)) → Type 0
+ToNumber form s None = (hashes form ≡ 0) ⊎ ((most : ℕ) → fit most form s ≡ None)
+ToNumber form s (Some (after, here)) =
+    (hashes form ≡ suc (hashes after.now))
+    × ((most : ℕ)
+    → fit most form s
+    ≡ on_number (number most here.now) (λ v k. prepended (v ∷ []) (fit most after.now (drop k here.now))))
 
 -- ---- writing
 -- one of two texts, of which only that one is computed

@@ -4,5 +4,5 @@ use Rattle.text.proofs.patterns.fitted.Goals as goal
 
 pub loop-slot-preserved : goal.loop-slot-preserved
 loop-slot-preserved g c =
-    a_number c.loop-slot.invariant c.loop-slot-test.true c.in_ok-word.ensures c.in_ok-here.ensures.cases.0
-    c.in_ok-here.ensures.cases.1 c.in_ok-v.v c.in_ok-v.d (sym c.number.ensures ∙ c.in_ok-v.was)
+    a_number c.loop-slot.invariant c.loop-slot-test.true c.in_ok-after.after c.in_ok-after.here c.in_ok-after.ensures
+    c.in_ok-v.v c.in_ok-v.d (sym c.number.ensures ∙ c.in_ok-v.was)

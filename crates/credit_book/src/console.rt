@@ -184,8 +184,8 @@ impl Console<'_> {
 
     // The end of the input: the last line's answer, then the cells. It takes the input, so that nothing is answered or
     // listed after one that failed.
-    fn close(&mut self, input: &Input) -> Closed
-        requires { input.now.progress ≡ Progress.Ended }
+    fn close(&mut self, input: Input) -> Closed
+        requires { input.progress ≡ Progress.Ended }
         ensures { ClosedBy self.old.table (at_desk self.old.desk) result }
     {
         let last = self.answer_last();
@@ -212,7 +212,7 @@ pub fn run(rt: HostRuntime, table: Table, book: Book, out: &mut [u8; OUT_ROOM]) 
     };
     let input = console.read_all();
     let closed = match input.progress {
-        Progress::Ended => Some(console.close(&input)),
+        Progress::Ended => Some(console.close(input)),
         _ => None,
     };
     Ran { input, closed }

@@ -58,6 +58,7 @@ pub struct TextRead {
     pub turns: u64,
 }
 
+// What was read before a reading broke off is no file's text.
 impl From<TextRead> for Unusable {
     ghost use Rattle.std.specs.Prelude.{◌≡◌};
     ghost use Rattle.credit_book.specs.declared.files.Unusable.{Unusable};

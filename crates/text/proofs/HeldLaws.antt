@@ -1,22 +1,22 @@
 -- Laws of what is held of a line: a run of its bytes held at once, and a chunk's first line feed.
-use Rattle.std.specs.Prelude.{Option, Some, None, fold, min, replicate}
+use Rattle.std.specs.Prelude.{Option, Some, None, fold, min}
 use Rattle.std.specs.Borrow.{Bor}
 use Rattle.std.proofs.Math.Nat.{min_comm, min-le_left, min-le_right}
-use Rattle.std.proofs.lemmas.List.{drop-replicate, drop_at, length-take, take_min}
+use Rattle.std.proofs.lemmas.List.{take_min}
 use Rattle.std.proofs.lemmas.Slice.{take-put_mid}
 use Prim.Native.Nat.{ℕ, zero, suc, ◌+◌, ◌-◌, ◌≤◌}
 use native.Mathlib.Omega.{arith}
 use mathlib.Core.Path.{◌≡◌, refl, sym, ap, ◌∙◌}
 use mathlib.Core.List.{List, [], ◌∷◌, ◌++◌, append_assoc, append-nil}
-use lib.ListN.{length, take, drop, length-append}
+use lib.ListN.{length, take, length-append}
 use lib.Seq.{length-take-le}
 use borrow.Rule.Slice.PartMut.{put_mid}
 use borrow.Author.Tests.{lt-ltb, le-ltb, ne_eqb}
 use Rattle.figuring.specs.Tables.{Table}
 use Rattle.book.specs.declared.ledger.Book.{Book}
 use Rattle.book.specs.declared.kinds.Call.{Call}
-use Rattle.text.specs.declared.held.Held.TheInside.{Inside}
-use Rattle.text.specs.Held.{HasZeros, held_in}
+use Rattle.text.specs.declared.held.Held.{Held}
+use Rattle.text.specs.Held.{held_in}
 use Rattle.text.specs.Line.{line_of}
 use Rattle.text.specs.Answers.{answer_to}
 use Rattle.text.specs.Desk.{Terminal, takes_all, held_with, most_held, line_feed}
@@ -45,42 +45,30 @@ held_run held (b ∷ s) (suc k) e =
 pub first_held : (line : List ℕ) → fold held_with [] line ≡ take most_held line
 first_held line = held_run [] line (min most_held (length line)) refl ∙ take_min most_held line
 
+-- however long it is said to be, no more bytes are held than there are
+pub within : (h : Held) → length h.bytes ≡ most_held → take (min h.len most_held) h.bytes ≡ held_in h
+within h l = rw (← l) (take_min h.len h.bytes)
+
 -- bytes copied behind those that are held, as many as there is room for
-module _ {h : Inside} (z : HasZeros h) (more part : List ℕ) (n : ℕ)
-    (n_is : n ≡ min (length more) (most_held - h.len)) (part_is : part ≡ take n more) where
-  abbrev pub after : Inside
-  after = record { bytes = put_mid h.len (h.len + n - h.len) h.bytes part; len = h.len + n }
-
+module _ (h : Held) (long : length h.bytes ≡ most_held) (more part : List ℕ) (start n : ℕ)
+    (start_is : start ≡ min h.len most_held) (n_is : n ≡ min (length more) (most_held - start)) (part_is : part ≡ take n more) where
   part_long : length part ≡ n
-  part_long = rw part_is (length-take-le n more (omega (arith, n_is, min-le_left (length more) (most_held - h.len))))
+  part_long = rw part_is (length-take-le n more (omega (arith, n_is, min-le_left (length more) (most_held - start))))
 
-  room : h.len ≤ length h.bytes
-  room =
-      omega (arith, sym (length-take h.len h.bytes) ∙ z.len_is, min-le_right h.len (length h.bytes))
+  inside : start ≤ length h.bytes
+  inside = omega (arith, long, start_is, min-le_right h.len most_held)
 
-  held_then : held_in after ≡ held_in h ++ part
-  held_then = take-put_mid h.len (h.len + n - h.len) h.bytes part (h.len + n) (omega (arith, part_long)) room
+  before : take start h.bytes ≡ held_in h
+  before = rw start_is (within h long)
 
-  -- and behind them there are zeros still
-  zeros_left : replicate (most_held - (h.len + n)) 0 ≡ drop (h.len + n - h.len) (drop h.len h.bytes)
-  zeros_left =
-      sym
-      (ap (drop (h.len + n - h.len))
-      (ap (drop h.len) (sym z.bytes_are) ∙ drop_at (take h.len h.bytes) (replicate (most_held - h.len) 0) h.len z.len_is)
-      ∙ drop-replicate (h.len + n - h.len) (most_held - h.len) 0
-      ∙ ap (λ k. replicate k 0) (omega arith))
+  before_long : length (held_in h) ≡ start
+  before_long = ap length (sym before) ∙ length-take-le start h.bytes inside
 
-  pub held_more : held_in after ≡ fold held_with (held_in h) more
+  pub held_more : take (start + n) (put_mid start (start + n - start) h.bytes part) ≡ fold held_with (held_in h) more
   held_more =
-      held_then
-      ∙ rw part_is (sym (held_run (held_in h) more n (n_is ∙ min_comm (length more) (most_held - h.len) ∙ rw z.len_is refl)))
-
-  pub zeros_more : HasZeros after
-  zeros_more =
-      record {
-        len_is = rw (held_then, length-append, z.len_is, part_long) refl;
-        bytes_are = rw (held_then, append_assoc) (ap (λ s. take h.len h.bytes ++ (part ++ s)) zeros_left);
-      }
+      take-put_mid start (start + n - start) h.bytes part (start + n) (omega (arith, part_long)) inside
+      ∙ rw (before, part_is)
+      (sym (held_run (held_in h) more n (n_is ∙ min_comm (length more) (most_held - start) ∙ rw before_long refl)))
 
 -- so a terminal takes a run with no line feed in it
 run_taken :

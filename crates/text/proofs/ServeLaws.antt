@@ -16,7 +16,7 @@ use Rattle.book.specs.declared.kinds.Call.{Call}
 use Rattle.text.specs.Placing.{HasRoom, Adds}
 use Rattle.text.specs.Line.{line_of}
 use Rattle.text.specs.Answers.{answer_room, answer_to, posted_line, text_of}
-use Rattle.text.specs.Desk.{at_desk, takes_all, ends, ServedBy}
+use Rattle.text.specs.Desk.{at_desk, held_in, takes_all, ends, ServedBy}
 use Rattle.text.specs.Serving.{NextLine}
 use Rattle.text.proofs.AnswerLaws.{text_length}
 use Rattle.text.proofs.HeldLaws.{midst}
@@ -28,13 +28,13 @@ pub record Midway (t : Table) (d₀ : Desk) (chunk : List ℕ) (p₀ : Page) (d 
   pub room : HasRoom (answer_room * length left) p
   pub said : List ℕ
   pub adds : Adds said p₀ p
-  pub goes : takes_all t (at_desk d₀) chunk ≡ takes_all t (midst d.book d.held said) left
+  pub goes : takes_all t (at_desk d₀) chunk ≡ takes_all t (midst d.book (held_in d.held) said) left
 
 module _ {t : Table} {d₀ : Desk} {chunk : List ℕ} {p₀ : Page} {d : Desk} {p : Page} {left : List ℕ}
     (m : Midway t d₀ chunk p₀ d p left) where
-  module _ {line : Option Call} {rest : Bor (List ℕ)} {held : List ℕ} (n : NextLine d.held left (Some (line, rest)) held) where
+  module _ {line : Option Call} {rest : Bor (List ℕ)} {held : List ℕ} (n : NextLine (held_in d.held) left (Some (line, rest)) held) where
     pub next :
-        {d' : Desk} {p' : Page} → d'.book ≡ (posted_line t d.book line).book → d'.held ≡ held
+        {d' : Desk} {p' : Page} → d'.book ≡ (posted_line t d.book line).book → held_in d'.held ≡ held
         → Adds (text_of (posted_line t d.book line).answer) p p' → Midway t d₀ chunk p₀ d' p' rest.now
     next left-book left-held put =
         record {
@@ -48,11 +48,11 @@ module _ {t : Table} {d₀ : Desk} {chunk : List ℕ} {p₀ : Page} {d : Desk} {
 -- ---- the end of the input
 module _ (t : Table) (d : Desk) where
   pub a_last :
-      {d' : Desk} {p p' : Page} {line : Option Call} → false ≡ eqb (length d.held) 0 → line ≡ line_of d.held
-      → d'.book ≡ (posted_line t d.book line).book → d'.held ≡ []
+      {d' : Desk} {p p' : Page} {line : Option Call} → false ≡ eqb (length (held_in d.held)) 0 → line ≡ line_of (held_in d.held)
+      → d'.book ≡ (posted_line t d.book line).book → held_in d'.held ≡ []
       → Adds (text_of (posted_line t d.book line).answer) p p' → ServedBy (ends t (at_desk d)) d' p p'
   unfolding answer_to
   a_last z l b h put =
-      let some : length d.held ≡ 0 → ⊥ = λ e. true≢false (sym (rw e at z)) in
-      let k : ltb 0 (length d.held) ≡ true = lt-ltb 0 (length d.held) (omega arith) in
+      let some : length (held_in d.held) ≡ 0 → ⊥ = λ e. true≢false (sym (rw e at z)) in
+      let k : ltb 0 (length (held_in d.held)) ≡ true = lt-ltb 0 (length (held_in d.held)) (omega arith) in
       rw k (record { book_is = rw l at b; held_is = h; adds = rw l at put })

@@ -4,7 +4,7 @@ use Rattle.std.specs.Prelude.{ℕ, ◌≤◌, Bool, true, false, cond, ◌≡◌
 use Rattle.std.proofs.lemmas.List.Edits.{sets as overwritten}
 use Rattle.figuring.specs.Tables.{Table}
 use Rattle.book.specs.declared.ledger.Book.{Book}
-pub use Rattle.text.specs.Held.{most_held}
+pub use Rattle.text.specs.Held.{most_held, held_in, nothing_held}
 use Rattle.text.specs.declared.desk.Desk.{Desk}
 use Rattle.text.specs.declared.page.Page.{Page}
 use Rattle.text.specs.Answers.{text_of, answer_to}
@@ -53,19 +53,15 @@ ends t x = terminal_if (ltb 0 (length x.held)) (answering t x) x
 
 -- a desk as a terminal that has said nothing yet
 abbrev pub at_desk : Desk → Terminal
-at_desk d = record { book = d.book; held = d.held; said = [] }
+at_desk d = record { book = d.book; held = held_in d.held; said = [] }
 
 abbrev pub open_desk : Book → Desk
-open_desk b = record { book = b; held = [] }
-
--- in the midst of a line
-abbrev pub in_line : Book → List ℕ → Desk
-in_line b line = record { book = b; held = take most_held line }
+open_desk b = record { book = b; held = nothing_held }
 
 -- the desk d' after a call is a terminal's, and the buffer starts with the n bytes that the terminal has said
 pub record Serves (x : Terminal) (out : List ℕ) (n : ℕ) (d' : Desk) (out' : List ℕ) : Type 0 where
   pub book_is : d'.book ≡ x.book
-  pub held_is : d'.held ≡ x.held
+  pub held_is : held_in d'.held ≡ x.held
   pub at_is : n ≡ length x.said
   pub out_is : out' ≡ overwritten out 0 x.said
   -- so what was said can be lent: `&out[..n]`
@@ -82,7 +78,7 @@ pub record RepliedBy (room : Bool) (d : Desk) (x : Terminal) (out : List ℕ) (r
 -- the same on a page with the room
 pub record ServedBy (x : Terminal) (d' : Desk) (p p' : Page) : Type 0 where
   pub book_is : d'.book ≡ x.book
-  pub held_is : d'.held ≡ x.held
+  pub held_is : held_in d'.held ≡ x.held
   pub adds : Adds x.said p p'
 
 -- ---- desks are compared by what they hold
@@ -93,8 +89,8 @@ pub record SameReply (r : Option ℕ) (d₁ : Desk) (out₁ : List ℕ) (s : Opt
   pub same_held : at_desk d₁ ≡ at_desk e₁
 
 -- two desks that hold the same, given the same table, the same chunk and the same buffer, or ended, give the same, and
--- hold the same again. That a contract sees of a desk its book and the bytes that it holds alone, and so nothing of the
--- room past them, is its model's doing (src/held.rt). f is what the call makes of a terminal: `takes_all`, or `ends`
+-- hold the same again: what lies in the room past the bytes that are held shows nowhere. f is what the call makes of a
+-- terminal: `takes_all`, or `ends`
 abbrev pub ByWhatIsHeld : Type 0
 ByWhatIsHeld =
     (room : Bool) (f : Terminal → Terminal) (d e : Desk) (out : List ℕ)

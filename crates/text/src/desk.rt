@@ -1,8 +1,8 @@
 // The input to its lines: a desk takes any chunk of bytes, and answers each line that ends in it. The table of standards
 // is one for the whole run; a desk does not hold it, so each call is handed it.
-ghost use Rattle.std.specs.Prelude.{◌≡◌, ◌*◌, ◌/◌, leb, length};
+ghost use Rattle.std.specs.Prelude.{◌≡◌, ◌*◌, ◌/◌, leb, length, take};
 ghost use Rattle.text.specs.Answers.{answer_room, posted_line, text_of};
-ghost use Rattle.text.specs.Desk.{RepliedBy, ServedBy, at_desk, ends, in_line, open_desk, takes_all};
+ghost use Rattle.text.specs.Desk.{RepliedBy, ServedBy, at_desk, ends, held_in, most_held, open_desk, takes_all};
 ghost use Rattle.text.specs.Placing.{Adds, HasRoom};
 
 use crate::answering::{ANSWER_ROOM, line_in, write_answer};
@@ -14,7 +14,7 @@ use figuring::tables::Table;
 
 // The book, which each call is posted to in place, and what is held of a line that has not ended yet. Two desks are
 // compared by what they hold: `ByWhatIsHeld`. A caller may keep a desk as it stands, and go on from it later: a copy is
-// the same desk (`copies_are_same`).
+// the same desk (`desk_is_copied`, `copies_are_same`).
 #[derive(Clone, Copy)]
 pub struct Desk {
     pub book: Book,
@@ -34,7 +34,8 @@ impl Desk {
 
     // A desk that begins with this book, and in the midst of a line: as many of its bytes are held as there is room for.
     pub fn with_line(book: Book, line: &[u8]) -> Desk
-        ensures { result ≡ in_line book line.now }
+        ensures book { result.book ≡ book }
+        ensures held { held_in result.held ≡ take most_held line.now }
     {
         Desk {
             book,
@@ -44,7 +45,7 @@ impl Desk {
 
     // What is held of a line that has not ended yet; nothing where none has begun.
     pub fn held(&self) -> &[u8]
-        ensures { result.now ≡ self.now.held }
+        ensures { result.now ≡ held_in self.now.held }
     {
         self.held.as_slice()
     }

@@ -21,25 +21,26 @@ use Rattle.text.specs.Pattern.{ToNumber, fit, hashes, on_byte, on_number, prepen
 use Rattle.figuring.proofs.BoolLaws.{both}
 use Rattle.text.proofs.DigitLaws.{lead_length}
 
-pub number_length : (most : ℕ) (s : List ℕ) (v d : ℕ) → number most s ≡ Some (v, d) → d ≤ length s
+-- a number that is read is the digits that the text starts with
+its_digits :
+    (most : ℕ) (s : List ℕ) (v d : ℕ) → number most s ≡ Some (v, d)
+    → (proper most (leading s) ≡ true) × (length (leading s) ≡ d)
 unfolding number
-number_length most s v d e = go (proper most (leading s)) e
-  where
-    go : (b : Bool) → ◌≡◌ {A = Option (ℕ × ℕ)} (cond b (Some (value (leading s), length (leading s))) None) (Some (v, d)) → d ≤ length s
-    go true q = let z = same_Some _ _ q in let w : length (leading s) ≡ d = ap (λ (r : ℕ × ℕ). r.1) z in omega (arith, lead_length s)
-    go false q = absurd (none-some _ q)
-
-number_some : (most : ℕ) (s : List ℕ) (v d : ℕ) → number most s ≡ Some (v, d) → 0 < d
-unfolding number
-number_some most s v d e = go (proper most (leading s)) refl e
+its_digits most s v d e = go (proper most (leading s)) refl e
   where
     go :
         (b : Bool) → proper most (leading s) ≡ b
-        → ◌≡◌ {A = Option (ℕ × ℕ)} (cond b (Some (value (leading s), length (leading s))) None) (Some (v, d)) → 0 < d
-    go true p q =
-        let w : length (leading s) ≡ d = ap (λ (r : ℕ × ℕ). r.1) (same_Some _ _ q) in
-        omega (arith, ltb-true 0 (length (leading s)) (both _ _ p).0)
+        → ◌≡◌ {A = Option (ℕ × ℕ)} (cond b (Some (value (leading s), length (leading s))) None) (Some (v, d))
+        → (proper most (leading s) ≡ true) × (length (leading s) ≡ d)
+    go true p q = (p, ap (λ (r : ℕ × ℕ). r.1) (same_Some _ _ q))
     go false p q = absurd (none-some _ q)
+
+pub number_length : (most : ℕ) (s : List ℕ) (v d : ℕ) → number most s ≡ Some (v, d) → d ≤ length s
+number_length most s v d e = omega (arith, (its_digits most s v d e).1, lead_length s)
+
+number_some : (most : ℕ) (s : List ℕ) (v d : ℕ) → number most s ≡ Some (v, d) → 0 < d
+number_some most s v d e =
+    let n = its_digits most s v d e in omega (arith, n.1, ltb-true 0 (length (leading s)) (both _ _ n.0).0)
 
 -- ---- a text that is shorter than a pattern does not fit it
 -- f is what the rest of the pattern does with the rest of the text

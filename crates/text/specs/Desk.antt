@@ -58,6 +58,10 @@ at_desk d = record { book = d.book; held = held_in d.held; said = [] }
 abbrev pub open_desk : Book → Desk
 open_desk b = record { book = b; held = nothing_held }
 
+-- a terminal in the midst of a line, of which as much is held as there is room for
+abbrev pub in_line : Book → List ℕ → Terminal
+in_line b line = record { book = b; held = take most_held line; said = [] }
+
 -- the desk d' after a call is a terminal's, and the buffer starts with the n bytes that the terminal has said
 pub record Serves (x : Terminal) (out : List ℕ) (n : ℕ) (d' : Desk) (out' : List ℕ) : Type 0 where
   pub book_is : d'.book ≡ x.book

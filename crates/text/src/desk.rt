@@ -1,8 +1,8 @@
 // The input to its lines: a desk takes any chunk of bytes, and answers each line that ends in it. The table of standards
 // is one for the whole run; a desk does not hold it, so each call is handed it.
-ghost use Rattle.std.specs.Prelude.{◌≡◌, ◌*◌, ◌/◌, leb, length, take};
+ghost use Rattle.std.specs.Prelude.{◌≡◌, ◌*◌, ◌/◌, leb, length};
 ghost use Rattle.text.specs.Answers.{answer_room, posted_line, text_of};
-ghost use Rattle.text.specs.Desk.{RepliedBy, ServedBy, at_desk, ends, held_in, most_held, open_desk, takes_all};
+ghost use Rattle.text.specs.Desk.{RepliedBy, ServedBy, at_desk, ends, held_in, in_line, open_desk, takes_all};
 ghost use Rattle.text.specs.Placing.{Adds, HasRoom};
 
 use crate::answering::{ANSWER_ROOM, line_in, write_answer};
@@ -34,8 +34,7 @@ impl Desk {
 
     // A desk that begins with this book, and in the midst of a line: as many of its bytes are held as there is room for.
     pub fn with_line(book: Book, line: &[u8]) -> Desk
-        ensures book { result.book ≡ book }
-        ensures held { held_in result.held ≡ take most_held line.now }
+        ensures { at_desk result ≡ in_line book line.now }
     {
         Desk {
             book,
